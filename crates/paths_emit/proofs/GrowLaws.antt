@@ -11,7 +11,8 @@ use Rattle.model.specs.Script as model
 use Rattle.model.specs.Paths.{any_below, is_up}
 use Rattle.paths_positions.specs.Positions.{Entry, plain, accessing, modifying, over, union}
 use Rattle.paths_positions.specs.Positions as positions
-use Rattle.paths_positions.specs.Packed.{Position, with_role, entry_by, over_by, union_by}
+use Rattle.paths_positions.specs.declared.packed.Fields.{Fields as Position}
+use Rattle.paths_positions.specs.Packed.{with_role, entry_by, over_by, union_by}
 use Rattle.paths_positions.specs.Packed.{plain_role, accessed_role, modified_role, entries_in, PushPost}
 use Rattle.paths_emit.specs.Emitting.{out_of, GrowPre, Grown, BelowPre, BelowPost}
 use Rattle.paths_positions.proofs.PackedLaws.{entries_in_length}

@@ -11,9 +11,13 @@ use Rattle.model.specs.Meeting.{admits_element, admits_leaf, is_named, is_deep}
 use Rattle.model.proofs.BoolLaws.{eq_cases}
 use Rattle.paths_positions.specs.Positions as positions
 use Rattle.paths_positions.specs.Positions.{Entry, entry_at, IsLower}
-use Rattle.paths_positions.specs.Packed.{Position, step_in, position_by, fields_of, entry_of, entries_by, root_kind, over_kind}
+use Rattle.paths_positions.specs.declared.packed.Fields.{Fields as Position}
+use Rattle.paths_positions.specs.Packed.{step_in, position_by, fields_of, entry_of, entries_by, cleaned}
+use Rattle.paths_positions.specs.Packed.{kept_of, kept_entry, kept_entries_by}
+use Rattle.paths_positions.specs.Packed.{root_kind, over_kind}
 use Rattle.paths_positions.specs.Packed.{union_kind, kinds}
 use Rattle.paths_positions.proofs.PackedLaws.{fields_low}
+use Rattle.paths_positions.proofs.CleanMeetLaws.{lower_kept}
 use Rattle.paths_cells.proofs.MarkLaws.{bit_set}
 use Rattle.paths_rows.specs.Columns.{Columns, column_at, is_set_at, first_field, second_field, kind_field, deep_field, element_field}
 use Rattle.paths_rows.specs.Columns.{leaf_field}
@@ -52,6 +56,30 @@ pub lower_at : (ws : List ℕ) → PositionsPre ws → (k : ℕ) → k < length 
     position_by (fields_of (get_or ws k 0)) ≡ p → IsLower k p
 lower_at ws pre k h e =
     subst (IsLower k) (position_at ws k ∙ e) (pre.lower k (omega (arith, entries_length ws)))
+
+-- and of the first script's, by the fields that its kind has
+pub kept_entry_at_lem : (ws : List ℕ) (k : ℕ) → entry_at (kept_entries_by ws) k ≡ kept_entry (get_or ws k 0)
+kept_entry_at_lem ws k = get_or-map kept_entry ws k 0
+
+pub kept_position_at : (ws : List ℕ) (k : ℕ) → (entry_at (kept_entries_by ws) k).position ≡ position_by (kept_of (get_or ws k 0))
+kept_position_at ws k = ap (λ (x : Entry). x.position) (kept_entry_at_lem ws k)
+
+pub kept_length : (ws : List ℕ) → length (kept_entries_by ws) ≡ length ws
+kept_length ws = length-map ws kept_entry
+
+pub kept_lower_at : (ws : List ℕ) → PositionsPre ws → (k : ℕ) → k < length ws → {p : positions.Position} →
+    position_by (kept_of (get_or ws k 0)) ≡ p → IsLower k p
+kept_lower_at ws pre k h e =
+    subst (IsLower k) (kept_position_at ws k ∙ e) (lower_kept ws pre.lower k (omega (arith, kept_length ws)))
+
+kind_kept : (p : Position) → p.kind < kinds → (cleaned p).kind ≡ p.kind
+kind_kept p h =
+    eq_cases p.kind 0 (λ e. rw e)
+    (λ a. eq_cases p.kind root_kind (λ e. rw e)
+    (λ b. eq_cases p.kind over_kind (λ e. rw e) (λ c. let e : p.kind ≡ union_kind = omega (arith, a, b, c, h) in rw e)))
+
+pub kept_kind : (w : ℕ) → (kept_of w).kind ≡ (fields_of w).kind
+kept_kind w = kind_kept (fields_of w) (kind_low w)
 
 -- NAMES of two bytes
 labels_agree : (x y : ℕ) → (eqb (y % 256) (x % 256) && eqb (y / 256) (x / 256)) ≡ eqb x y

@@ -1,4 +1,5 @@
 pub mod KindLaws
+pub mod KeptLaws
 pub mod RestLaws
 pub mod RowLaws
 pub mod OnLaws

@@ -13,13 +13,18 @@ use Rattle.model.proofs.BoolLaws.{eq_cases}
 use Rattle.paths_positions.specs.Positions as positions
 use Rattle.paths_positions.specs.Positions.{entry_at}
 use Rattle.paths_positions.specs.Answer.{cell_at}
-use Rattle.paths_positions.specs.Packed.{Position, step_in, position_by, fields_of, entries_by, over_kind, union_kind}
-use Rattle.paths_positions.proofs.RelationLaws.{IsSingle, IsStart, passes, up_step, up_start, union_of}
+use Rattle.paths_positions.specs.declared.packed.Fields.{Fields as Position}
+use Rattle.paths_positions.specs.Packed.{step_in, position_by, fields_of, entries_by, kept_of, kept_entries_by}
+use Rattle.paths_positions.specs.Packed.{over_kind, union_kind, kinds}
+use Rattle.paths_positions.proofs.PackedLaws.{kept_low}
+use Rattle.paths_positions.proofs.RelationLaws.{IsSingle, IsStart, passes}
 use Rattle.paths_cells.specs.Pairs.{on_element, down, up, relations, mark_at, is_marked, marked, PairPre, MarkPre}
 use Rattle.paths_cells.proofs.MarkLaws.{same_rows, fewer_rows, marked_is, mark_length, mark_here, mark_others}
 use Rattle.paths_rows.specs.Columns.{column_at, is_set_at, first_field, second_field, kind_field, deep_field, element_field}
 use Rattle.paths_fill.specs.Filling.{held_by, holds_at, UnionsPre, UnionsPost, LeftPre, LeftPost, RestPre, RestPost}
 use Rattle.paths_fill.proofs.KindLaws.{KindOf, is_nowhere, is_root, is_over, is_union, kind_of, kind_low, position_at, entries_length}
+use Rattle.paths_fill.proofs.KindLaws.{kept_position_at, kept_length, kept_kind}
+use Rattle.paths_fill.proofs.KeptLaws.{up_step, up_start, union_of}
 use Rattle.paths_fill.proofs.KindLaws.{lower_at, over_first, union_first, second_at_lem, deep_at, over_element, no_element_at}
 use Rattle.paths_fill.proofs.KindLaws.{kind_at, is_union_lem, not_union, first_low}
 use Rattle.paths_fill.proofs.RowLaws.{at_union, at_single, at_up}
@@ -39,10 +44,10 @@ held_join r c d = go (eqb r on_element) (eqb r down) (eqb r up)
     go false false false = refl
 
 -- a single position, by its kind
-pub single_at : (w : ℕ) → ((fields_of w).kind ≡ union_kind → ⊥) → IsSingle (position_by (fields_of w))
-single_at w n = go (kind_of (fields_of w) (kind_low w))
+pub single_at : (q : Position) → q.kind < kinds → (q.kind ≡ union_kind → ⊥) → IsSingle (position_by q)
+single_at q h n = go (kind_of q h)
   where
-    go : KindOf (fields_of w) → IsSingle (position_by (fields_of w))
+    go : KindOf q → IsSingle (position_by q)
     go (is_nowhere e f) = subst IsSingle (sym f) tt
     go (is_root e f) = subst IsSingle (sym f) tt
     go (is_over e f) = subst IsSingle (sym f) tt
@@ -70,14 +75,14 @@ module _ {ws us c t : List ℕ} {k l : ℕ} (pre : LeftPre ws us c t k l) where
   read_before : (r j : ℕ) → r < relations → j < l → is_marked t m r k j ≡ holds_at ws us r k j
   read_before r j h g = marked_is t m r k j (pre.before r j h g)
 
-  low : k < length (entries_by ws)
-  low = omega (arith, entries_length ws, pre.fill.row)
+  low : k < length (kept_entries_by ws)
+  low = omega (arith, kept_length ws, pre.fill.row)
 
   low₂ : l < length (entries_by us)
   low₂ = omega (arith, entries_length us, pre.column)
 
-  at_k : (entry_at (entries_by ws) k).position ≡ position_by (fields_of (get_or ws k 0))
-  at_k = position_at ws k
+  at_k : (entry_at (kept_entries_by ws) k).position ≡ position_by (kept_of (get_or ws k 0))
+  at_k = kept_position_at ws k
 
   -- a union
   module _ (union : column_at c kind_field l ≡ union_kind) where
@@ -121,8 +126,9 @@ module _ {ws us c t : List ℕ} {k l : ℕ} (pre : LeftPre ws us c t k l) where
             ap (λ (x : ℕ). is_marked t m r k q.first || is_marked t m r k x) (second_at_lem pre.fill.columns l pre.column) ∙
             ap (λ (x : Bool). x || is_marked t m r k q.second) (read_before r q.first h parts.0) ∙
             ap (λ (x : Bool). holds_at ws us r k q.first || x) (read_before r q.second h parts.1) ∙
-            sym (held_join r (cell_at (entries_by ws) (entries_by us) k q.first) (cell_at (entries_by ws) (entries_by us) k q.second)) ∙
-            ap (held_by r) (sym (union_of (entries_by ws) (entries_by us) pre.fill.first.lower pre.fill.second.lower k l low low₂
+            sym (held_join r (cell_at (entries_by ws) (entries_by us) k q.first)
+            (cell_at (entries_by ws) (entries_by us) k q.second)) ∙
+            ap (held_by r) (sym (union_of ws us pre.fill.first.lower pre.fill.second.lower k l low low₂
             q.first q.second (position_at us l ∙ is)))
 
     pub union_left : (a b : ℕ) (t' : List ℕ) → a ≡ column_at c first_field l → b ≡ column_at c second_field l → UnionsPost t m k l a b t' →
@@ -170,13 +176,14 @@ module _ {ws us c t : List ℕ} {k l : ℕ} (pre : LeftPre ws us c t k l) where
     up_is : up_by ≡ holds_at ws us up k l
     up_is = go (kind_of q (kind_low (get_or us l 0)))
       where
-        k_single : IsSingle (position_by (fields_of (get_or ws k 0)))
-        k_single = single_at (get_or ws k 0) pre.single
+        k_single : IsSingle (position_by (kept_of (get_or ws k 0)))
+        k_single = single_at (kept_of (get_or ws k 0)) (kept_low (get_or ws k 0)).kind
+            (λ e. pre.single (sym (kept_kind (get_or ws k 0)) ∙ e))
 
         start : (p : positions.Position) → position_by q ≡ p → IsStart p → (q.kind ≡ over_kind → ⊥) → up_by ≡ holds_at ws us up k l
         start p f b n =
             up_by_none n _ ∙
-            sym (up_start (entries_by ws) (entries_by us) pre.fill.first.lower pre.fill.second.lower k l low low₂ _ at_k
+            sym (up_start ws us pre.fill.first.lower pre.fill.second.lower k l low low₂ _ at_k
             k_single p
             (position_at us l ∙ f) b)
 
@@ -198,7 +205,7 @@ module _ {ws us c t : List ℕ} {k l : ℕ} (pre : LeftPre ws us c t k l) where
             (is_marked t m down k q.first)) (read_before up q.first (omega arith) b) ∙
             ap (λ (x : Bool). holds_at ws us on_element k l || passes (admits_element (step_in q)) (is_deep (step_in q))
             (holds_at ws us up k q.first) x) (read_before down q.first (omega arith) b) ∙
-            sym (up_step (entries_by ws) (entries_by us) pre.fill.first.lower pre.fill.second.lower k l low low₂ _ at_k k_single
+            sym (up_step ws us pre.fill.first.lower pre.fill.second.lower k l low low₂ _ at_k k_single
             (step_in q) q.first b (position_at us l ∙ f))
 
         go : KindOf q → up_by ≡ holds_at ws us up k l

@@ -13,16 +13,18 @@ use Rattle.model.proofs.BoolLaws.{eq_cases}
 use Rattle.paths_positions.specs.Positions as positions
 use Rattle.paths_positions.specs.Positions.{entry_at}
 use Rattle.paths_positions.specs.Answer.{any_up_to}
-use Rattle.paths_positions.specs.Packed.{Position, step_in, position_by, fields_of, entries_by, root_kind, union_kind}
-use Rattle.paths_positions.proofs.PositionLaws.{second_nowhere}
+use Rattle.paths_positions.specs.declared.packed.Fields.{Fields as Position}
+use Rattle.paths_positions.specs.Packed.{step_in, position_by, fields_of, entries_by, kept_of, kept_entries_by, root_kind, union_kind}
 use Rattle.paths_positions.proofs.AnyUpToLaws.{any_up_to_false}
-use Rattle.paths_positions.proofs.RelationLaws.{IsSingle, on_roots, on_root_step, down_root, root_leaf, apart, leafless}
+use Rattle.paths_positions.proofs.RelationLaws.{IsSingle}
 use Rattle.paths_cells.specs.Pairs.{on_element, down, up, on_leaf, relations, mark_at, is_marked}
 use Rattle.paths_cells.proofs.MarkLaws.{marked_is}
 use Rattle.paths_rows.specs.Columns.{column_at, kind_field}
 use Rattle.paths_rows.specs.Rows.{RowMarked, PassPre, label_is, root_by, DownPre, down_by}
 use Rattle.paths_fill.specs.Filling.{holds_at, before_rest, RestPre, RestPost, KindRowPre, Apart, RowPost}
 use Rattle.paths_fill.proofs.KindLaws.{KindOf, is_nowhere, is_root, is_over, is_union, kind_of, kind_low, position_at, entries_length}
+use Rattle.paths_fill.proofs.KindLaws.{kept_position_at, kept_length}
+use Rattle.paths_fill.proofs.KeptLaws.{second_nowhere, on_roots, on_root_step, down_root, root_leaf, apart, leafless}
 use Rattle.paths_fill.proofs.KindLaws.{kind_at, is_union_lem, not_union, labels_at}
 use Rattle.paths_fill.proofs.RestLaws.{single_at}
 use Rattle.paths_fill.proofs.RowLaws.{by_relation, Kept, kept_row, kept_rest, kept_then, filled_next, row_room, clear, pass}
@@ -32,14 +34,14 @@ module _ {ws us c t : List ℕ} {k : ℕ} {p : Position} (pre : KindRowPre ws us
   abbrev m : ℕ
   m = length us
 
-  is : position_by (fields_of (get_or ws k 0)) ≡ positions.root p.label
+  is : position_by (kept_of (get_or ws k 0)) ≡ positions.root p.label
   is = ap position_by (sym pre.position) ∙ rw pre.kind
 
-  at_k : (entry_at (entries_by ws) k).position ≡ positions.root p.label
-  at_k = position_at ws k ∙ is
+  at_k : (entry_at (kept_entries_by ws) k).position ≡ positions.root p.label
+  at_k = kept_position_at ws k ∙ is
 
-  low : k < length (entries_by ws)
-  low = omega (arith, entries_length ws, pre.fill.row)
+  low : k < length (kept_entries_by ws)
+  low = omega (arith, kept_length ws, pre.fill.row)
 
   cells : (l : ℕ) → l < m → l < length (entries_by us)
   cells l h = omega (arith, entries_length us)
@@ -69,18 +71,18 @@ module _ {ws us c t : List ℕ} {k : ℕ} {p : Position} (pre : KindRowPre ws us
         go : KindOf q → roots l ≡ before_rest ws us c on_element k l
         go (is_nowhere e f) =
             single (λ g. omega arith) (not_root (λ g. omega arith) ∙
-            sym (ap (λ (x : Cell). x.on_element) (second_nowhere (entries_by ws) (entries_by us) pre.fill.first.lower
+            sym (ap (λ (x : Cell). x.on_element) (second_nowhere ws us pre.fill.first.lower
             pre.fill.second.lower k l low (cells l h) (position_at us l ∙ f))))
         go (is_root e f) =
             single (λ g. omega arith)
             (ap (λ (x : Bool). x && label_is c (p.label % 256) (p.label / 256) l)
             (eq-eqb (column_at c kind_field l) root_kind (kind_at pre.fill.columns l h ∙ e)) ∙
             labels_at pre.fill.columns l h p.label ∙
-            sym (on_roots (entries_by ws) (entries_by us) pre.fill.first.lower pre.fill.second.lower k l low (cells l h)
+            sym (on_roots ws us pre.fill.first.lower pre.fill.second.lower k l low (cells l h)
             p.label q.label at_k (position_at us l ∙ f)))
         go (is_over e f) =
             single (λ g. omega arith) (not_root (λ g. omega arith) ∙
-            sym (on_root_step (entries_by ws) (entries_by us) pre.fill.first.lower pre.fill.second.lower k l low (cells l h)
+            sym (on_root_step ws us pre.fill.first.lower pre.fill.second.lower k l low (cells l h)
             p.label at_k (step_in q) q.first (position_at us l ∙ f)))
         go (is_union e f) =
             not_root (λ g. omega arith) ∙ sym (at_union ws us c on_element k l (is_union_lem pre.fill.columns l h e))
@@ -105,8 +107,8 @@ module _ {ws us c t : List ℕ} {k : ℕ} {p : Position} (pre : KindRowPre ws us
     down_single : (l : ℕ) → l < m → ((fields_of (get_or us l 0)).kind ≡ union_kind → ⊥) →
         holds_at ws us down k l ≡ holds_at ws us on_element k l
     down_single l h n =
-        down_root (entries_by ws) (entries_by us) pre.fill.first.lower pre.fill.second.lower k l low (cells l h) p.label at_k
-        (position_by (fields_of (get_or us l 0))) (position_at us l) (single_at (get_or us l 0) n)
+        down_root ws us pre.fill.first.lower pre.fill.second.lower k l low (cells l h) p.label at_k
+        (position_by (fields_of (get_or us l 0))) (position_at us l) (single_at (fields_of (get_or us l 0)) (kind_low (get_or us l 0)) n)
 
     down_is : (l : ℕ) → l < m → downs l ≡ before_rest ws us c down k l
     down_is l h = down_before l h ∙ eq_cases (fields_of (get_or us l 0)).kind union_kind union single
@@ -124,9 +126,9 @@ module _ {ws us c t : List ℕ} {k : ℕ} {p : Position} (pre : KindRowPre ws us
     -- no leaf
     no_leaf : (l : ℕ) → l < length (entries_by us) → holds_at ws us on_leaf k l ≡ false
     no_leaf =
-        leafless (entries_by ws) (entries_by us) pre.fill.first.lower pre.fill.second.lower k low (positions.root p.label)
+        leafless ws us pre.fill.first.lower pre.fill.second.lower k low (positions.root p.label)
         at_k tt
-        (λ l a x e g. root_leaf (entries_by ws) (entries_by us) pre.fill.first.lower pre.fill.second.lower k l low a p.label
+        (λ l a x e g. root_leaf ws us pre.fill.first.lower pre.fill.second.lower k l low a p.label
         at_k x e g)
 
     module _ {t₂ : List ℕ} (two : RowMarked t₁ m down k downs m t₂) where
@@ -182,6 +184,6 @@ module _ {ws us c t : List ℕ} {k : ℕ} {p : Position} (pre : KindRowPre ws us
 
           root_apart : Apart ws us k
           root_apart r l h g =
-              let n = apart (entries_by ws) (entries_by us) pre.fill.first.lower pre.fill.second.lower k low
+              let n = apart ws us pre.fill.first.lower pre.fill.second.lower k low
               (positions.root p.label) at_k tt not_down l (cells l g) in
               none_holds ws us k l n (no_leaf l (cells l g)) r h

@@ -11,14 +11,14 @@ use Rattle.model.proofs.BoolLaws.{eq_cases}
 use Rattle.paths_positions.specs.Positions as positions
 use Rattle.paths_positions.specs.Positions.{entry_at}
 use Rattle.paths_positions.specs.Answer.{NoElement, cell_at}
-use Rattle.paths_positions.specs.Packed.{position_by, fields_of, entries_by, union_kind}
+use Rattle.paths_positions.specs.Packed.{position_by, fields_of, entries_by, kept_of, union_kind}
 use Rattle.paths_positions.proofs.RelationLaws.{IsSingle}
 use Rattle.paths_cells.specs.Pairs.{on_element, down, up, on_leaf, relations, mark_at, HasRows}
 use Rattle.paths_cells.proofs.MarkLaws.{same_rows, fewer_rows}
 use Rattle.paths_rows.specs.Columns.{column_at, kind_field}
 use Rattle.paths_rows.specs.Rows.{RowMarked, PassPre}
 use Rattle.paths_fill.specs.Filling.{holds_at, Filled, FillPre, before_rest, RestPre, RestPost, Apart, RowPost}
-use Rattle.paths_fill.proofs.KindLaws.{position_at}
+use Rattle.paths_fill.proofs.KindLaws.{position_at, kept_kind}
 
 -- RELATIONS, one by one
 pub by_relation : (P : ℕ → Type 0) → P on_element → P down → P up → P on_leaf → (r : ℕ) → r < relations → P r
@@ -115,14 +115,14 @@ before_none ws us c r k l e = go (eqb (column_at c kind_field l) union_kind || e
 
 -- so the rest of the row can be marked
 pub rest_asked : {ws us c t t₁ : List ℕ} {k : ℕ} → FillPre ws us c k → Filled ws us k t →
-    ((fields_of (get_or ws k 0)).kind ≡ union_kind → ⊥) →
+    ((kept_of (get_or ws k 0)).kind ≡ union_kind → ⊥) →
     Kept t (length us) k t₁ →
     ((l : ℕ) → l < length us → (r : ℕ) → r < relations → mark_at t₁ (length us) r k l ≡ bit (before_rest ws us c r k l)) →
     RestPre ws us c t₁ k
-rest_asked {ws} {us} {c} {t} {t₁} fill filled single kept started =
+rest_asked {ws} {us} {c} {t} {t₁} {k} fill filled single kept started =
     record {
       fill = fill;
-      single = single;
+      single = λ e. single (kept_kind (get_or ws k 0) ∙ e);
       room = same_rows t t₁ (length us) (length ws) kept.size filled.room;
       started = λ r l h g. started l g r h;
     }

@@ -14,10 +14,11 @@ use Rattle.model.proofs.CellLaws.{between_on_up}
 use Rattle.paths_positions.specs.Positions as positions
 use Rattle.paths_positions.specs.Positions.{entry_at, paths_on}
 use Rattle.paths_positions.specs.Answer.{any_up_to, cell_at}
-use Rattle.paths_positions.specs.Packed.{Position, step_in, position_by, fields_of, entries_by, over_kind, union_kind}
+use Rattle.paths_positions.specs.declared.packed.Fields.{Fields as Position}
+use Rattle.paths_positions.specs.Packed.{step_in, position_by, fields_of, entries_by, kept_of, kept_entries_by, over_kind, union_kind}
 use Rattle.paths_positions.specs.Steps.{max_positions}
 use Rattle.paths_positions.proofs.AnyUpToLaws.{any_up_to_false}
-use Rattle.paths_positions.proofs.RelationLaws.{IsSingle, IsStart, on_steps, on_step_start, down_step, apart, leafless, below_apart}
+use Rattle.paths_positions.proofs.RelationLaws.{IsSingle, IsStart}
 use Rattle.paths_cells.specs.Pairs.{on_element, down, up, on_leaf, relations, mark_at, is_marked}
 use Rattle.paths_cells.proofs.MarkLaws.{bit_set, marked_is}
 use Rattle.paths_rows.specs.Columns.{column_at, is_set_at, kind_field, deep_field, element_field, leaf_field, named_field}
@@ -25,6 +26,8 @@ use Rattle.paths_rows.specs.Rows.{RowMarked, is_yes, parent_by, ParentsPre, Pare
 use Rattle.paths_fill.specs.Filling.{held_by, holds_at, before_rest, RestPre, RestPost, step_elements, step_leaves, source_by}
 use Rattle.paths_fill.specs.Filling.{KindRowPre, Apart, RowPost}
 use Rattle.paths_fill.proofs.KindLaws.{KindOf, is_nowhere, is_root, is_over, is_union, kind_of, kind_low, position_at, entries_length}
+use Rattle.paths_fill.proofs.KindLaws.{kept_position_at, kept_length, kept_lower_at}
+use Rattle.paths_fill.proofs.KeptLaws.{on_steps, on_step_start, down_step, apart, leafless, below_apart}
 use Rattle.paths_fill.proofs.KindLaws.{lower_at, over_first, deep_at, named_at, over_element, over_leaf, no_element_at}
 use Rattle.paths_fill.proofs.KindLaws.{no_leaf_at, is_union_lem, not_union, first_low, labels_at}
 use Rattle.paths_fill.proofs.RestLaws.{single_at}
@@ -74,17 +77,17 @@ module _ {ws us c t : List ℕ} {k : ℕ} {p : Position} (pre : KindRowPre ws us
   abbrev i : ℕ
   i = p.first
 
-  is : position_by (fields_of (get_or ws k 0)) ≡ positions.over s i
+  is : position_by (kept_of (get_or ws k 0)) ≡ positions.over s i
   is = ap position_by (sym pre.position) ∙ rw pre.kind
 
-  at_k : (entry_at (entries_by ws) k).position ≡ positions.over s i
-  at_k = position_at ws k ∙ is
+  at_k : (entry_at (kept_entries_by ws) k).position ≡ positions.over s i
+  at_k = kept_position_at ws k ∙ is
 
   pub operand_low : i < k
-  operand_low = lower_at ws pre.fill.first k pre.fill.row is
+  operand_low = kept_lower_at ws pre.fill.first k pre.fill.row is
 
-  low : k < length (entries_by ws)
-  low = omega (arith, entries_length ws, pre.fill.row)
+  low : k < length (kept_entries_by ws)
+  low = omega (arith, kept_length ws, pre.fill.row)
 
   cells : (l : ℕ) → l < m → l < length (entries_by us)
   cells l h = omega (arith, entries_length us)
@@ -163,7 +166,7 @@ module _ {ws us c t : List ℕ} {k : ℕ} {p : Position} (pre : KindRowPre ws us
           admits_element (step_in q) && (not (is_named s && is_named (step_in q)) || x))) (labels_at pre.fill.columns l h p.label) ∙
           named_turned (admits_element s) (is_parent s (step_in q) (cell_at (entries_by ws) (entries_by us) i q.first))
           (admits_element (step_in q)) (not (is_named s && is_named (step_in q)) || eqb p.label q.label) ∙
-          sym (on_steps (entries_by ws) (entries_by us) pre.fill.first.lower pre.fill.second.lower k l low (cells l h) s i at_k
+          sym (on_steps ws us pre.fill.first.lower pre.fill.second.lower k l low (cells l h) s i at_k
           (step_in q) q.first (position_at us l ∙ f)).0
 
       elements_none : (q.kind ≡ over_kind → ⊥) → step_elements s c ps l ≡ false
@@ -179,8 +182,9 @@ module _ {ws us c t : List ℕ} {k : ℕ} {p : Position} (pre : KindRowPre ws us
           ap (λ (x : Bool). admits_leaf s && (x && is_set_at c leaf_field l)) (parent_is_lem e (omega arith)) ∙
           ap (λ (x : Bool). admits_leaf s && (is_parent s (step_in q) (cell_at (entries_by ws) (entries_by us) i q.first) && x))
           (over_leaf pre.fill.columns l h e) ∙
-          turned (admits_leaf s) (is_parent s (step_in q) (cell_at (entries_by ws) (entries_by us) i q.first)) (admits_leaf (step_in q)) ∙
-          sym (on_steps (entries_by ws) (entries_by us) pre.fill.first.lower pre.fill.second.lower k l low (cells l h) s i at_k
+          turned (admits_leaf s) (is_parent s (step_in q) (cell_at (entries_by ws) (entries_by us) i q.first))
+          (admits_leaf (step_in q)) ∙
+          sym (on_steps ws us pre.fill.first.lower pre.fill.second.lower k l low (cells l h) s i at_k
           (step_in q) q.first (position_at us l ∙ f)).1
 
       leaves_none : (q.kind ≡ over_kind → ⊥) → step_leaves s c ps l ≡ false
@@ -191,7 +195,7 @@ module _ {ws us c t : List ℕ} {k : ℕ} {p : Position} (pre : KindRowPre ws us
       start : (x : positions.Position) → position_by q ≡ x → IsStart x →
           (holds_at ws us on_element k l ≡ false) × (holds_at ws us on_leaf k l ≡ false)
       start x f g =
-          on_step_start (entries_by ws) (entries_by us) pre.fill.first.lower pre.fill.second.lower k l low (cells l h) s i at_k
+          on_step_start ws us pre.fill.first.lower pre.fill.second.lower k l low (cells l h) s i at_k
           x (position_at us l ∙ f) g
 
       both_on : (step_elements s c ps l ≡ before_rest ws us c on_element k l) × (step_leaves s c ps l ≡ before_rest ws us c on_leaf k l)
@@ -280,8 +284,9 @@ module _ {ws us c t : List ℕ} {k : ℕ} {p : Position} (pre : KindRowPre ws us
               (read_kept down l (omega arith) h) ∙
               ap (λ (x : Bool). holds_at ws us on_element k l || (admits_element s && (holds_at ws us down i l || (is_deep s && x))))
               (read_kept up l (omega arith) h) ∙
-              sym (down_step (entries_by ws) (entries_by us) pre.fill.first.lower pre.fill.second.lower k l low (cells l h) s i
-              operand_low at_k (position_by (fields_of (get_or us l 0))) (position_at us l) (single_at (get_or us l 0) n)) ∙
+              sym (down_step ws us pre.fill.first.lower pre.fill.second.lower k l low (cells l h) s i
+              operand_low at_k (position_by (fields_of (get_or us l 0))) (position_at us l)
+              (single_at (fields_of (get_or us l 0)) (kind_low (get_or us l 0)) n)) ∙
               sym (at_single ws us c down k l z refl)
 
           union : (fields_of (get_or us l 0)).kind ≡ union_kind → downs l ≡ before_rest ws us c down k l
@@ -328,7 +333,7 @@ module _ {ws us c t : List ℕ} {k : ℕ} {p : Position} (pre : KindRowPre ws us
               let z = not_union pre.fill.columns l h (single_kind us l x e g) in
               let d : holds_at ws us down k l ≡ false =
               sym (at_single ws us c down k l z refl) ∙ sym (down_is l h) ∙ any_up_to_false downs m no-down l h in (
-                (or_neither _ _ (sym (down_step (entries_by ws) (entries_by us) pre.fill.first.lower pre.fill.second.lower k l low
+                (or_neither _ _ (sym (down_step ws us pre.fill.first.lower pre.fill.second.lower k l low
                     (cells l h) s i operand_low at_k x e g) ∙ d)).0,
                 d,
               )
@@ -343,10 +348,10 @@ module _ {ws us c t : List ℕ} {k : ℕ} {p : Position} (pre : KindRowPre ws us
 
           step_apart : Apart ws us k
           step_apart r l h g =
-              let n = apart (entries_by ws) (entries_by us) pre.fill.first.lower pre.fill.second.lower k low
+              let n = apart ws us pre.fill.first.lower pre.fill.second.lower k low
               (positions.over s i) at_k tt not_down l (cells l g) in
               none_holds ws us k l n
-              (leafless (entries_by ws) (entries_by us) pre.fill.first.lower pre.fill.second.lower k low (positions.over s i)
+              (leafless ws us pre.fill.first.lower pre.fill.second.lower k low (positions.over s i)
               at_k tt not_leaf l (cells l g)) r h
 
         pub step_done : {t₄ : List ℕ} → RestPost ws us t₃ k t₄ → (x y : Bool) → x ≡ any_up_to (step_leaves s c ps) m →
@@ -363,7 +368,7 @@ module _ {ws us c t : List ℕ} {k : ℕ} {p : Position} (pre : KindRowPre ws us
   -- a step from a row without anything in common
   pub dead_row : Apart ws us i → Apart ws us k
   dead_row none r l h g =
-      let n = below_apart (entries_by ws) (entries_by us) pre.fill.first.lower pre.fill.second.lower s i k low operand_low at_k
+      let n = below_apart ws us pre.fill.first.lower pre.fill.second.lower s i k low operand_low at_k
       (λ j a. let b : j < m = omega (arith, entries_length us) in
       record { on = none on_element j (omega arith) b; down = none down j (omega arith) b; up = none up j (omega arith) b }) l
       (cells l g) in

@@ -10,15 +10,17 @@ use lib.Seq.{get_or-set_same, get_or-set_other}
 use borrow.Author.Tests.{ne_eqb, not-true}
 use Rattle.std.specs.Prelude.{slice_index_or}
 use Rattle.model.specs.Base.{bit}
-use Rattle.model.specs.Meeting.{is_met, no_cell}
+use Rattle.model.specs.Meeting.{Cell, is_met, no_cell}
 use Rattle.model.proofs.BoolLaws.{eq_cases}
 use Rattle.paths_positions.specs.Positions as positions
 use Rattle.paths_positions.specs.Positions.{Entry, entry_at}
 use Rattle.paths_positions.specs.Answer.{any_up_to, is_tested, cell_at, meet_at, row_meets, positions_meet}
-use Rattle.paths_positions.specs.Packed.{Position, position_by, entry_by, fields_of, entries_by, accessed_role, modified_role, union_kind}
+use Rattle.paths_positions.specs.declared.packed.Fields.{Fields as Position}
+use Rattle.paths_positions.specs.Packed.{position_by, entry_by, fields_of, entries_by, kept_of, kept_entries_by}
+use Rattle.paths_positions.specs.Packed.{accessed_role, modified_role, union_kind}
 use Rattle.paths_positions.specs.Steps.{max_positions}
 use Rattle.paths_positions.proofs.AnyUpToLaws.{any_up_to_none, any_up_to_below, any_up_to_found, any_up_to_next, any_up_to_zero}
-use Rattle.paths_positions.proofs.PositionLaws.{first_nowhere, first_union}
+use Rattle.paths_positions.proofs.CleanMeetLaws.{cell_at_first, row_meets_first}
 use Rattle.paths_cells.specs.declared.pairs.Relation.TheVariants.{OnElement, Down, Up, OnLeaf}
 use Rattle.paths_cells.specs.Pairs.{relation_number, on_element, on_leaf, relations, place_of, mark_at, is_marked, marked}
 use Rattle.paths_cells.specs.Pairs.{PairPre, MarkPre}
@@ -28,7 +30,8 @@ use Rattle.paths_rows.specs.Rows.{RowMarked, is_yes, UnionPre, either_by, MetPre
 use Rattle.paths_fill.specs.Filling.{roleless, held_by, holds_at, Filled, FillPre, UnionsPre, UnionsPost, KindRowPre, Apart}
 use Rattle.paths_fill.specs.Filling.{RowPre, RowPost}
 use Rattle.paths_fill.specs.Filling.{MeetsPre, TablePre}
-use Rattle.paths_fill.proofs.KindLaws.{entry_at_lem, position_at, entries_length, lower_at}
+use Rattle.paths_fill.proofs.KindLaws.{entry_at_lem, entries_length, kept_entry_at_lem, kept_position_at, kept_length, kept_lower_at}
+use Rattle.paths_fill.proofs.KeptLaws.{first_nowhere, first_union}
 use Rattle.paths_fill.proofs.RestLaws.{held_join}
 use Rattle.paths_fill.proofs.RowLaws.{by_relation, Kept, kept_row, kept_then, filled_next, row_room, clear}
 
@@ -92,16 +95,16 @@ pub record UnionTo (ws us t₀ : List ℕ) (k r : ℕ) (t : List ℕ) : Type 0 w
   pub todo : (s l : ℕ) → s < relations → r ≤ s → l < length us → mark_at t (length us) s k l ≡ 0
 
 module _ {ws us c t : List ℕ} {k : ℕ} {p : Position} (pre : KindRowPre ws us c t k p union_kind) where
-  is : position_by (fields_of (get_or ws k 0)) ≡ positions.union p.first p.second
+  is : position_by (kept_of (get_or ws k 0)) ≡ positions.union p.first p.second
   is = ap position_by (sym pre.position) ∙ rw pre.kind
 
   pub parts : (p.first < k) × (p.second < k)
-  parts = lower_at ws pre.fill.first k pre.fill.row is
+  parts = kept_lower_at ws pre.fill.first k pre.fill.row is
 
   union_holds : (r l : ℕ) → l < length us → holds_at ws us r k l ≡ (holds_at ws us r p.first l || holds_at ws us r p.second l)
   union_holds r l h =
-      ap (held_by r) (first_union (entries_by ws) (entries_by us) pre.fill.first.lower pre.fill.second.lower k l
-      (omega (arith, entries_length ws, pre.fill.row)) (omega (arith, entries_length us)) (position_at ws k ∙ is)) ∙
+      ap (held_by r) (first_union ws us pre.fill.first.lower pre.fill.second.lower k l
+      (omega (arith, kept_length ws, pre.fill.row)) (omega (arith, entries_length us)) (kept_position_at ws k ∙ is)) ∙
       held_join r (cell_at (entries_by ws) (entries_by us) p.first l) (cell_at (entries_by ws) (entries_by us) p.second l)
 
   -- of two without anything in common
@@ -157,7 +160,7 @@ module _ {ws us c t : List ℕ} {k : ℕ} {p : Position} (pre : KindRowPre ws us
 
 -- A ROW of any kind
 pub of_kind : {ws us c live t : List ℕ} {k : ℕ} → RowPre ws us c live t k → (p : Position) (n : ℕ) → roleless p ≡ roleless
-    (fields_of (get_or ws k 0)) →
+    (kept_of (get_or ws k 0)) →
     p.kind ≡ n →
     KindRowPre ws us c t k p n
 of_kind pre p n e f = record { fill = pre.fill; filled = pre.filled; position = e; kind = f }
@@ -168,17 +171,17 @@ live_within pre h = omega (arith, pre.fill.row, pre.fill.first.few, pre.size)
 -- NOTHING has nothing in common
 pub nothing_apart : {ws us c t : List ℕ} {k : ℕ} {p : Position} → KindRowPre ws us c t k p 0 → Apart ws us k
 nothing_apart {ws} {us} {c} {t} {k} {p} pre r l h g =
-    ap (held_by r) (first_nowhere (entries_by ws) (entries_by us) pre.fill.first.lower pre.fill.second.lower k l
-    (omega (arith, entries_length ws, pre.fill.row)) (omega (arith, entries_length us)) (position_at ws k ∙ is)) ∙
+    ap (held_by r) (first_nowhere ws us pre.fill.first.lower pre.fill.second.lower k l
+    (omega (arith, kept_length ws, pre.fill.row)) (omega (arith, entries_length us)) (kept_position_at ws k ∙ is)) ∙
     by_relation (λ (x : ℕ). held_by x no_cell ≡ false) refl refl refl refl r h
   where
-    is : position_by (fields_of (get_or ws k 0)) ≡ positions.nowhere
+    is : position_by (kept_of (get_or ws k 0)) ≡ positions.nowhere
     is = ap position_by (sym pre.position) ∙ rw pre.kind
 
 -- MEETING
 module _ {ws us c t : List ℕ} {k : ℕ} {seen : Bool} (pre : MeetsPre ws us c t k seen) where
   abbrev role : ℕ
-  role = (fields_of (get_or ws k 0)).role
+  role = (kept_of (get_or ws k 0)).role
 
   pub meets_asks : MetPre t (length us) k c
   meets_asks =
@@ -193,8 +196,8 @@ module _ {ws us c t : List ℕ} {k : ℕ} {seen : Bool} (pre : MeetsPre ws us c 
 
   -- a test of the second's role, and both in it
   meet_at_lem : (x : ℕ) (l : ℕ) → l < length us →
-      is_tested (entry_at (entries_by ws) k) (entry_at (entries_by us) l) ≡ eqb (fields_of (get_or us l 0)).role x →
-      met_by t (length us) c k x l ≡ meet_at (entries_by ws) (entries_by us) k l
+      is_tested (entry_at (kept_entries_by ws) k) (entry_at (entries_by us) l) ≡ eqb (fields_of (get_or us l 0)).role x →
+      met_by t (length us) c k x l ≡ meet_at (kept_entries_by ws) (entries_by us) k l
   meet_at_lem x l h e =
       ap (λ (n : ℕ). eqb n x && (is_marked t (length us) on_element k l || is_marked t (length us) on_leaf k l))
       (pre.fill.columns.at role_field l (omega arith) h) ∙
@@ -202,48 +205,57 @@ module _ {ws us c t : List ℕ} {k : ℕ} {seen : Bool} (pre : MeetsPre ws us c 
       (on_read on_element l (omega arith) h) ∙
       ap (λ (b : Bool). eqb (fields_of (get_or us l 0)).role x && (holds_at ws us on_element k l || b))
       (on_read on_leaf l (omega arith) h) ∙
-      ap (λ (b : Bool). b && is_met (cell_at (entries_by ws) (entries_by us) k l)) (sym e)
+      ap (λ (b : Bool). b && is_met (cell_at (entries_by ws) (entries_by us) k l)) (sym e) ∙
+      ap (λ (c : Cell). is_tested (entry_at (kept_entries_by ws) k) (entry_at (entries_by us) l) && is_met c)
+      (sym (cell_at_first ws (entries_by us) k l))
 
-  tested : (l : ℕ) → is_tested (entry_at (entries_by ws) k) (entry_at (entries_by us) l) ≡
+  tested : (l : ℕ) → is_tested (entry_at (kept_entries_by ws) k) (entry_at (entries_by us) l) ≡
       ((eqb role modified_role && eqb (fields_of (get_or us l 0)).role accessed_role) ||
       (eqb role accessed_role && eqb (fields_of (get_or us l 0)).role modified_role))
   tested l =
-      ap (λ (x : Entry). is_tested x (entry_at (entries_by us) l)) (entry_at_lem ws k) ∙
-      ap (is_tested (entry_by (fields_of (get_or ws k 0)))) (entry_at_lem us l)
+      ap (λ (x : Entry). is_tested x (entry_at (entries_by us) l)) (kept_entry_at_lem ws k) ∙
+      ap (is_tested (entry_by (kept_of (get_or ws k 0)))) (entry_at_lem us l)
+
+  -- and all the fields of the first's say the same
+  all_fields : row_meets (kept_entries_by ws) (entries_by us) k (length us) ≡ row_meets (entries_by ws) (entries_by us) k (length us)
+  all_fields = row_meets_first ws (entries_by us) k (length us) pre.fill.row
 
   pub accessed_meets : {b : Bool} → role ≡ accessed_role → b ≡ any_up_to (met_by t (length us) c k modified_role) (length us) →
       b ≡ row_meets (entries_by ws) (entries_by us) k (length us)
   accessed_meets e is =
       is ∙ any_up_to_below _ _ (length us) (λ l h. meet_at_lem modified_role l h (tested l ∙
       ap (λ (x : ℕ). (eqb x modified_role && eqb (fields_of (get_or us l 0)).role accessed_role) ||
-      (eqb x accessed_role && eqb (fields_of (get_or us l 0)).role modified_role)) e))
+      (eqb x accessed_role && eqb (fields_of (get_or us l 0)).role modified_role)) e)) ∙ all_fields
 
   pub modified_meets : {b : Bool} → role ≡ modified_role → b ≡ any_up_to (met_by t (length us) c k accessed_role) (length us) →
       b ≡ row_meets (entries_by ws) (entries_by us) k (length us)
   modified_meets e is =
       is ∙ any_up_to_below _ _ (length us) (λ l h. meet_at_lem accessed_role l h (tested l ∙
       ap (λ (x : ℕ). (eqb x modified_role && eqb (fields_of (get_or us l 0)).role accessed_role) ||
-      (eqb x accessed_role && eqb (fields_of (get_or us l 0)).role modified_role)) e ∙ or-false _))
+      (eqb x accessed_role && eqb (fields_of (get_or us l 0)).role modified_role)) e ∙ or-false _)) ∙ all_fields
 
   pub plain_meets : (role ≡ accessed_role → ⊥) → (role ≡ modified_role → ⊥) →
       false ≡ row_meets (entries_by ws) (entries_by us) k (length us)
   plain_meets n o =
-      sym (any_up_to_none (meet_at (entries_by ws) (entries_by us) k) (λ l.
-      ap (λ (b : Bool). b && is_met (cell_at (entries_by ws) (entries_by us) k l)) (tested l ∙
+      sym (any_up_to_none (meet_at (kept_entries_by ws) (entries_by us) k) (λ l.
+      ap (λ (b : Bool). b && is_met (cell_at (kept_entries_by ws) (entries_by us) k l)) (tested l ∙
       ap (λ (x : Bool). (x && eqb (fields_of (get_or us l 0)).role accessed_role) || (eqb role accessed_role &&
       eqb (fields_of (get_or us l 0)).role modified_role)) (ne_eqb role modified_role o) ∙
-      ap (λ (x : Bool). x && eqb (fields_of (get_or us l 0)).role modified_role) (ne_eqb role accessed_role n))) (length us))
+      ap (λ (x : Bool). x && eqb (fields_of (get_or us l 0)).role modified_role) (ne_eqb role accessed_role n))) (length us)) ∙ all_fields
 
   -- nothing in common
   pub apart_meets : not seen ≡ true → false ≡ row_meets (entries_by ws) (entries_by us) k (length us)
   apart_meets n =
       let e = not-true seen n in
-      sym (any_up_to_below (meet_at (entries_by ws) (entries_by us) k) (λ (l : ℕ). false) (length us) (λ l h.
-      ap (λ (b : Bool). is_tested (entry_at (entries_by ws) k) (entry_at (entries_by us) l) && (b || holds_at ws us on_leaf k l))
+      sym (any_up_to_below (meet_at (kept_entries_by ws) (entries_by us) k) (λ (l : ℕ). false) (length us) (λ l h.
+      ap (λ (c : Cell). is_tested (entry_at (kept_entries_by ws) k) (entry_at (entries_by us) l) && is_met c)
+      (cell_at_first ws (entries_by us) k l) ∙
+      ap (λ (b : Bool). is_tested (entry_at (kept_entries_by ws) k) (entry_at (entries_by us) l) && (b || holds_at ws us on_leaf k l))
       (pre.apart e on_element l (omega arith) h) ∙
-      ap (λ (b : Bool). is_tested (entry_at (entries_by ws) k) (entry_at (entries_by us) l) && b) (pre.apart e on_leaf l (omega arith) h) ∙
-      and-false (is_tested (entry_at (entries_by ws) k) (entry_at (entries_by us) l))) ∙
-      any_up_to_none (λ (l : ℕ). false) (λ l. refl) (length us))
+      ap (λ (b : Bool). is_tested (entry_at (kept_entries_by ws) k) (entry_at (entries_by us) l) && b)
+      (pre.apart e on_leaf l (omega arith) h) ∙
+      and-false (is_tested (entry_at (kept_entries_by ws) k) (entry_at (entries_by us) l))) ∙
+      any_up_to_none (λ (l : ℕ). false) (λ l. refl) (length us)) ∙ all_fields
 
 -- ALL ROWS up to one: filled, none of them meeting any
 pub record RowsTo (ws us : List ℕ) (k : ℕ) (live t : List ℕ) : Type 0 where

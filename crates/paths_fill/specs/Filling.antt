@@ -5,7 +5,8 @@ use Rattle.model.specs.Script.{Step}
 use Rattle.model.specs.Meeting.{Cell, admits_element, admits_leaf, is_named}
 use Rattle.paths_positions.specs.Positions.{AreLower}
 use Rattle.paths_positions.specs.Answer.{cell_at}
-use Rattle.paths_positions.specs.Packed.{Position, fields_of, entries_by, plain_role, union_kind}
+use Rattle.paths_positions.specs.declared.packed.Fields.{Fields as Position}
+use Rattle.paths_positions.specs.Packed.{fields_of, entries_by, kept_of, plain_role, union_kind}
 use Rattle.paths_positions.specs.Steps.{max_positions}
 use Rattle.paths_cells.specs.Pairs.{on_element, down, up, relations, mark_at, is_marked, HasRows}
 use Rattle.paths_rows.specs.Columns.{Columns, column_at, kind_field}
@@ -100,7 +101,7 @@ roleless p = record p { role = plain_role }
 pub record KindRowPre (ws us c t : List ℕ) (k : ℕ) (p : Position) (n : ℕ) : Type 0 where
   pub fill : FillPre ws us c k
   pub filled : Filled ws us k t
-  pub position : roleless p ≡ roleless (fields_of (get_or ws k 0))
+  pub position : roleless p ≡ roleless (kept_of (get_or ws k 0))
   pub kind : p.kind ≡ n
 
 abbrev pub Apart : (ws us : List ℕ) → (k : ℕ) → Type 0

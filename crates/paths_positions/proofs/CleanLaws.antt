@@ -1,8 +1,8 @@
--- The cleaned fields say what the fields said, for any number: whether it leads up; the role, of each kind but nothing; and the position,
--- but for a name that is stored where the test is for none.
+-- The fields that the kind has say what all of them say, for any number: whether it leads up; the role, of each kind but nothing; and the
+-- position, but for a name that is stored where the test is for none.
 use mathlib.Core.Path.{◌≡◌, refl, ap, sym, ◌∙◌}
 use mathlib.Core.Bool.{Bool, false}
-use mathlib.Core.List.{List, map}
+use mathlib.Core.List.{List}
 use Prim.Native.Nat.{ℕ}
 use lib.Dec.{eqb}
 use lib.ListN.{length, get_or, get_or-map}
@@ -11,12 +11,14 @@ use Rattle.model.proofs.BoolLaws.{eq_cases, cond_cases}
 use Rattle.model.specs.Script.{step_by}
 use Rattle.paths_positions.specs.Positions.{over, Entry, leads_up, entry_at}
 use Rattle.paths_positions.specs.Answer.{any_up_to}
-use Rattle.paths_positions.specs.Packed.{Position, position_by, entry_by, root_kind, over_kind, accessed_role, modified_role}
-use Rattle.paths_positions.specs.Packed.{known_role, known_name, digits_of, cleaned, entry_of, leads_up_at, some_leads_up}
+use Rattle.paths_positions.specs.declared.packed.Fields.{Fields as Position}
+use Rattle.paths_positions.specs.Packed.{position_by, entry_by, root_kind, over_kind, accessed_role, modified_role}
+use Rattle.paths_positions.specs.Packed.{known_role, known_name, fields_of, cleaned, entry_of, kept_entry, kept_entries_by}
+use Rattle.paths_positions.specs.Packed.{leads_up_at, some_leads_up}
 use Rattle.paths_positions.proofs.AnyUpToLaws.{any_up_to_same}
 
 -- BY KIND
-by_kind : {P : Type 0} (k : ℕ) → (k ≡ 0 → P) → (k ≡ root_kind → P) → (k ≡ over_kind → P) →
+pub by_kind : {P : Type 0} (k : ℕ) → (k ≡ 0 → P) → (k ≡ root_kind → P) → (k ≡ over_kind → P) →
     (eqb k 0 ≡ false → eqb k root_kind ≡ false → eqb k over_kind ≡ false → P) → P
 by_kind k f g h i =
     eq_cases k 0 f
@@ -61,17 +63,14 @@ module _ (p : Position) where
   nameless_cleaned e =
       name_known (cond_cases (λ (n : ℕ). n ≡ p.label) (eqb p.test 3) (λ _. refl) (λ _. sym e))
 
--- A LIST of packed positions: one of them leads up where one does by its digits
-abbrev pub digits_entry : (packed : ℕ) → Entry
-digits_entry w = entry_by (digits_of w)
+-- A LIST of packed positions: one of them leads up where one does by the fields that its kind has
+abbrev pub kept_leads_up_at : (packed : List ℕ) → (number : ℕ) → Bool
+kept_leads_up_at ws k = leads_up (entry_at (kept_entries_by ws) k).position
 
-abbrev pub digits_lead_up_at : (packed : List ℕ) → (number : ℕ) → Bool
-digits_lead_up_at ws k = leads_up (entry_at (map digits_entry ws) k).position
+kept_leads_up_same : (ws : List ℕ) (k : ℕ) → leads_up_at ws k ≡ kept_leads_up_at ws k
+kept_leads_up_same ws k =
+    ap (λ (x : Entry). leads_up x.position) (get_or-map entry_of ws k 0) ∙ sym (leads_up_cleaned (fields_of (get_or ws k 0))) ∙
+    ap (λ (x : Entry). leads_up x.position) (sym (get_or-map kept_entry ws k 0))
 
-digits_lead_up_same : (ws : List ℕ) (k : ℕ) → leads_up_at ws k ≡ digits_lead_up_at ws k
-digits_lead_up_same ws k =
-    ap (λ (x : Entry). leads_up x.position) (get_or-map entry_of ws k 0) ∙ leads_up_cleaned (digits_of (get_or ws k 0)) ∙
-    ap (λ (x : Entry). leads_up x.position) (sym (get_or-map digits_entry ws k 0))
-
-pub some_leads_up_digits : (ws : List ℕ) → some_leads_up ws ≡ any_up_to (digits_lead_up_at ws) (length ws)
-some_leads_up_digits ws = any_up_to_same (leads_up_at ws) (digits_lead_up_at ws) (length ws) (digits_lead_up_same ws)
+pub some_leads_up_kept : (ws : List ℕ) → some_leads_up ws ≡ any_up_to (kept_leads_up_at ws) (length ws)
+some_leads_up_kept ws = any_up_to_same (leads_up_at ws) (kept_leads_up_at ws) (length ws) (kept_leads_up_same ws)

@@ -8,3 +8,4 @@ pub mod AnswerLaws
 pub mod PackedLaws
 pub mod UpLaws
 pub mod CleanLaws
+pub mod CleanMeetLaws

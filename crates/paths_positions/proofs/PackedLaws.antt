@@ -1,5 +1,5 @@
 -- Packed positions and the entries they are: a position packed and unpacked is the same, and one packed more is one entry more.
-use mathlib.Core.Path.{◌≡◌, refl, ap, ◌∙◌}
+use mathlib.Core.Path.{◌≡◌, refl, ap, sym, ◌∙◌}
 use mathlib.Core.List.{List, [], ◌∷◌, ◌++◌, map, map-append}
 use Prim.Native.Nat.{ℕ, ◌+◌, ◌*◌, ◌/◌, ◌%◌, ◌<◌, ◌≤◌}
 use native.Mathlib.Nat.{add_comm, mul_comm, mod-eq_of_lt}
@@ -11,8 +11,9 @@ use lib.Seq.{length-take-le}
 use Rattle.model.proofs.BoolLaws.{cond_cases}
 use Rattle.model.proofs.ListLaws.{take_set}
 use Rattle.paths_positions.specs.Steps.{max_positions}
-use Rattle.paths_positions.specs.Packed.{Position, entry_by, kinds, roles, axes, tests, labels, pack_position, digits_of, PositionFits}
-use Rattle.paths_positions.specs.Packed.{root_kind, over_kind, accessed_role, modified_role, known_role, fields_in, fields_of}
+use Rattle.paths_positions.specs.declared.packed.Fields.{Fields as Position}
+use Rattle.paths_positions.specs.Packed.{entry_by, kinds, roles, axes, tests, labels, pack_position, fields_of, PositionFits}
+use Rattle.paths_positions.specs.Packed.{root_kind, over_kind, accessed_role, modified_role, known_role, fields_in, kept_of}
 use Rattle.paths_positions.specs.Packed.{cleaned, entry_of, entries_in, PushPost}
 use Rattle.paths_positions.specs.declared.packed.Role.{Role}
 use Rattle.paths_positions.specs.declared.packed.Role.TheVariants.{Plain, Accessed, Modified}
@@ -33,8 +34,8 @@ above : (n : ℕ) {x : ℕ} (q : ℕ) → x < n → (x + n * q) / n ≡ q
 above n {x} q h = ap (λ (v : ℕ). v / n) (turned n x q) ∙ digits_div q h
 
 module _ (p : Position) (f : PositionFits p) where
-  digits_packed : digits_of (pack_position p) ≡ p
-  digits_packed =
+  fields_packed : fields_of (pack_position p) ≡ p
+  fields_packed =
       let operands = p.first + max_positions * p.second in
       let label = p.label + labels * operands in
       let test = p.test + tests * label in
@@ -58,7 +59,19 @@ module _ (p : Position) (f : PositionFits p) where
       let j = ap (λ (v : ℕ). v % max_positions) above_first ∙ mod-eq_of_lt f.second in
       λ z. record { kind = k z; role = r z; axis = a z; test = t z; label = n z; first = i z; second = j z }
 
--- THE CODE's positions have no others
+  pub position_pushed : (ws : List ℕ) (n : ℕ) → n < length ws → PushPost ws n p (set ws n (pack_position p)) (n + 1) n
+  position_pushed ws n h =
+      let w = pack_position p in
+      record {
+        size = length-set ws n w;
+        entries =
+            ap (map entry_of) (take_set ws n w h) ∙ map-append entry_of (take n ws) (w ∷ []) ∙
+            ap (λ (q : Position). entries_in ws n ++ (entry_by q ∷ [])) fields_packed;
+        count = refl;
+        result = refl;
+      }
+
+-- THE CODE's positions have no fields but those of their kind
 over_clean : (m : Role) (a : Axis) (t : Test) (i : ℕ) →
     cleaned (fields_in (Over m (record { axis = a; test = t }) i)) ≡ fields_in (Over m (record { axis = a; test = t }) i)
 over_clean Plain a Node i = refl
@@ -84,22 +97,13 @@ cleaned_in (Union Plain i j) = refl
 cleaned_in (Union Accessed i j) = refl
 cleaned_in (Union Modified i j) = refl
 
+-- so what is packed of them is kept
 module _ (p : declared.Position) (f : PositionFits (fields_in p)) where
-  fields_packed : fields_of (pack_position (fields_in p)) ≡ fields_in p
-  fields_packed = ap cleaned (digits_packed (fields_in p) f) ∙ cleaned_in p
+  pub kept_packed : kept_of (pack_position (fields_in p)) ≡ fields_in p
+  kept_packed = ap cleaned (fields_packed (fields_in p) f) ∙ cleaned_in p
 
-  pub position_pushed : (ws : List ℕ) (n : ℕ) → n < length ws → PushPost ws n (fields_in p) (set ws n (pack_position (fields_in p)))
-      (n + 1) n
-  position_pushed ws n h =
-      let w = pack_position (fields_in p) in
-      record {
-        size = length-set ws n w;
-        entries =
-            ap (map entry_of) (take_set ws n w h) ∙ map-append entry_of (take n ws) (w ∷ []) ∙
-            ap (λ (q : Position). entries_in ws n ++ (entry_by q ∷ [])) fields_packed;
-        count = refl;
-        result = refl;
-      }
+  pub kept_same : kept_of (pack_position (fields_in p)) ≡ fields_of (pack_position (fields_in p))
+  kept_same = kept_packed ∙ sym (fields_packed (fields_in p) f)
 
 -- FIELDS of any number fit their room
 role_fits : (m : ℕ) → known_role m < roles
@@ -123,8 +127,7 @@ cleaned_fits p f =
 
 pub fields_low : (w : ℕ) → PositionFits (fields_of w)
 fields_low w =
-    cleaned_fits (digits_of w)
-    (record {
+    record {
       kind = omega arith;
       role = omega arith;
       axis = omega arith;
@@ -132,7 +135,10 @@ fields_low w =
       label = omega arith;
       first = omega arith;
       second = omega arith;
-    })
+    }
+
+pub kept_low : (w : ℕ) → PositionFits (kept_of w)
+kept_low w = cleaned_fits (fields_of w) (fields_low w)
 
 -- the entries of some of them
 pub entries_in_length : (ws : List ℕ) (n : ℕ) → n ≤ length ws → length (entries_in ws n) ≡ n

@@ -18,7 +18,8 @@ use Rattle.paths_positions.specs.Positions as positions
 use Rattle.paths_positions.specs.Positions.{nowhere, root, over, union, Entry, accessing, modifying, leads_up, Emitted}
 use Rattle.paths_positions.specs.Positions.{push_step, push_union, push_delete, push_below, emit, entries_before, entries_of}
 use Rattle.paths_positions.specs.Answer.{any_up_to}
-use Rattle.paths_positions.specs.Packed.{Position, position_by, fields_of, entry_of, entries_by, leads_up_at, some_leads_up}
+use Rattle.paths_positions.specs.declared.packed.Fields.{Fields as Position}
+use Rattle.paths_positions.specs.Packed.{position_by, fields_of, entry_of, entries_by, leads_up_at, some_leads_up}
 use Rattle.paths_positions.proofs.AnyUpToLaws.{any_up_to_any}
 
 -- ONE POSITION of a list

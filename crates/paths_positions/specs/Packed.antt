@@ -6,23 +6,15 @@ use Rattle.script_records.specs.Steps.{axis_number, test_number, test_name, step
 use Rattle.script_records.specs.declared.step.Step.{Step}
 use Rattle.paths_positions.specs.Positions as positions
 use Rattle.paths_positions.specs.Answer.{any_up_to}
+use Rattle.paths_positions.specs.declared.packed.Fields.{Fields as Position}
 use Rattle.paths_positions.specs.declared.packed.Role.{Role}
 use Rattle.paths_positions.specs.declared.packed.Role.TheVariants.{Plain, Accessed, Modified}
 use Rattle.paths_positions.specs.declared.packed.Position as declared
 use Rattle.paths_positions.specs.declared.packed.Position.TheVariants.{Nothing, Root, Over, Union}
 use Rattle.paths_positions.specs.Steps.{max_positions}
 
--- THE FIELDS of a position; those that its kind does not have are 0. The label is the name of its step, or its document
-pub record Position : Type 0 where
-  pub kind : ℕ
-  pub role : ℕ
-  pub axis : ℕ
-  pub test : ℕ
-  pub label : ℕ
-  pub first : ℕ
-  pub second : ℕ
-
--- the step of a position
+-- THE FIELDS of a position, here under its name; those that its kind does not have are 0. The label is the name of its step, or its
+-- document. The step of a position
 abbrev pub step_in : Position → model.Step
 step_in p = step_by p.axis p.test p.label
 
@@ -115,9 +107,9 @@ pack_position p =
 abbrev pub step_number : Step → ℕ
 step_number s = axis_number s.axis + axes * (test_number s.test + tests * test_name s.test)
 
--- and taken out again, each as it stands there
-abbrev pub digits_of : (packed : ℕ) → Position
-digits_of w =
+-- and taken out again
+abbrev pub fields_of : (packed : ℕ) → Position
+fields_of w =
     record {
       kind = w % kinds;
       role = w / kinds % roles;
@@ -135,7 +127,7 @@ known_role m = cond (eqb m accessed_role) accessed_role (cond (eqb m modified_ro
 abbrev pub known_name : (test label : ℕ) → ℕ
 known_name t n = cond (eqb t 3) n 0
 
--- only those that their kind has
+-- only those that their kind has: so they are those of one of the code's positions
 abbrev pub cleaned : Position → Position
 cleaned p =
     cond (eqb p.kind 0) no_fields
@@ -143,9 +135,8 @@ cleaned p =
     (cond (eqb p.kind over_kind) (over_by (known_role p.role) (step_by p.axis p.test (known_name p.test p.label)) p.first)
     (union_by (known_role p.role) p.first p.second)))
 
--- THE FIELDS of a packed position
-abbrev pub fields_of : (packed : ℕ) → Position
-fields_of w = cleaned (digits_of w)
+abbrev pub kept_of : (packed : ℕ) → Position
+kept_of w = cleaned (fields_of w)
 
 -- operands that are numbers of positions
 abbrev pub OperandsFit : declared.Position → Type 0
@@ -168,6 +159,10 @@ pub record PositionFits (p : Position) : Type 0 where
 abbrev pub entry_of : (packed : ℕ) → positions.Entry
 entry_of w = entry_by (fields_of w)
 
+-- and by the fields that its kind has
+abbrev pub kept_entry : (packed : ℕ) → positions.Entry
+kept_entry w = entry_by (kept_of w)
+
 -- the entries that the first ones are
 abbrev pub entries_in : (packed : List ℕ) → (count : ℕ) → List positions.Entry
 entries_in ws n = map entry_of (take n ws)
@@ -186,6 +181,9 @@ pub record PushPost (ws : List ℕ) (n : ℕ) (p : Position) (ws' : List ℕ) (n
 -- the entries that packed positions are
 abbrev pub entries_by : (packed : List ℕ) → List positions.Entry
 entries_by ws = map entry_of ws
+
+abbrev pub kept_entries_by : (packed : List ℕ) → List positions.Entry
+kept_entries_by ws = map kept_entry ws
 
 -- UPWARD: a position among them leads up
 abbrev pub leads_up_at : (packed : List ℕ) → (number : ℕ) → Bool

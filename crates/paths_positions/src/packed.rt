@@ -3,8 +3,9 @@ ghost use Rattle.std.specs.Prelude.{◌≡◌, ◌<◌, length, get_or};
 ghost use Rattle.paths_positions.specs.Steps.{max_positions};
 ghost use Rattle.paths_positions.specs.Positions.{leads_up};
 ghost use Rattle.paths_positions.specs.Packed.{role_number, known_role, fields_in, position_by, pack_position, fields_of, known_name};
-ghost use Rattle.paths_positions.specs.Packed.{step_number, OperandsFit, PositionFits, PushPre, PushPost};
-ghost use Rattle.script_records.specs.Steps.{axis_number, test_number, test_name};
+ghost use Rattle.paths_positions.specs.Packed.{cleaned, step_number, OperandsFit, PositionFits, PushPre, PushPost};
+ghost use Rattle.model.specs.Script.{step_by};
+ghost use Rattle.script_records.specs.Steps.{axis_number, test_number, test_name, step_of};
 
 use crate::POSITIONS;
 use plan_table::NameNumber;
@@ -61,6 +62,53 @@ pub enum Position {
         first: usize,
         second: usize,
     },
+}
+
+// The fields of a packed position, as they stand there: those that its kind does not have are 0 where `push` packed it. The label is the
+// name of its step, or its document.
+#[derive(Clone, Copy)]
+pub struct Fields {
+    pub kind: usize,
+    pub role: usize,
+    pub axis: usize,
+    pub test: usize,
+    pub label: u16,
+    pub first: usize,
+    pub second: usize,
+}
+
+impl Fields {
+    // Each field out of its bits.
+    pub fn unpacked(packed: usize) -> Fields
+        ensures { result ≡ fields_of packed }
+    {
+        let roles = packed / KINDS;
+        let axes = roles / ROLES;
+        let tests = axes / AXES;
+        let labels = tests / TESTS;
+        let operands = labels / LABELS;
+        Fields {
+            kind: packed % KINDS,
+            role: roles % ROLES,
+            axis: axes % AXES,
+            test: tests % TESTS,
+            label: (labels % LABELS) as u16,
+            first: operands % POSITIONS,
+            second: operands / POSITIONS % POSITIONS,
+        }
+    }
+
+    // Their step: its name is the label where its test is for one.
+    pub fn step(self) -> Step
+        requires axis { self.axis < 4 }
+        requires test { self.test < 4 }
+        ensures { step_of result ≡ step_by self.axis self.test (known_name self.test self.label) }
+    {
+        Step {
+            axis: axis_of(self.axis),
+            test: test_of(self.test, self.label),
+        }
+    }
 }
 
 // The role of a number.
@@ -163,34 +211,25 @@ impl Position {
 
     // The position that a packed one is.
     pub fn unpacked(packed: usize) -> Position
-        ensures { fields_in result ≡ fields_of packed }
+        ensures { fields_in result ≡ cleaned (fields_of packed) }
     {
-        let roles = packed / KINDS;
-        let axes = roles / ROLES;
-        let tests = axes / AXES;
-        let labels = tests / TESTS;
-        let operands = labels / LABELS;
-        let role = role_of(roles % ROLES);
-        let label = (labels % LABELS) as u16;
-        let first = operands % POSITIONS;
-        match packed % KINDS {
+        let fields = Fields::unpacked(packed);
+        let role = role_of(fields.role);
+        match fields.kind {
             0 => Position::Nothing,
             1 => Position::Root {
                 role,
-                document: label,
+                document: fields.label,
             },
             2 => Position::Over {
                 role,
-                step: Step {
-                    axis: axis_of(axes % AXES),
-                    test: test_of(tests % TESTS, label),
-                },
-                operand: first,
+                step: fields.step(),
+                operand: fields.first,
             },
             _ => Position::Union {
                 role,
-                first,
-                second: operands / POSITIONS % POSITIONS,
+                first: fields.first,
+                second: fields.second,
             },
         }
     }

@@ -6,7 +6,8 @@ use native.Mathlib.Omega.{arith}
 use lib.ListN.{length, get_or, set, length-set}
 use lib.Seq.{get_or-set_same, get_or-set_other}
 use Rattle.model.proofs.BoolLaws.{eq_cases}
-use Rattle.paths_positions.specs.Packed.{Position, fields_of}
+use Rattle.paths_positions.specs.declared.packed.Fields.{Fields as Position}
+use Rattle.paths_positions.specs.Packed.{fields_of}
 use Rattle.paths_positions.specs.Steps.{max_positions}
 use Rattle.paths_positions.proofs.PackedLaws.{fields_low}
 use Rattle.paths_rows.specs.Columns.{fields, field_by, column_at, FieldPre, AtPre, ColumnPost}

@@ -1,20 +1,22 @@
 -- A row marked column by column: at the start nothing is, each mark adds a column, and one not reached reads as at the start.
 use mathlib.Core.Path.{◌≡◌, refl, ap, sym, ◌∙◌, subst}
-use mathlib.Core.Bool.{Bool, false, ◌&&◌, ◌||◌, cond}
+use mathlib.Core.Bool.{Bool, false, ◌&&◌, ◌||◌, not, cond}
 use mathlib.Core.List.{List}
 use Prim.Native.Nat.{ℕ, ◌+◌, ◌%◌, ◌≤◌, ◌<◌}
 use native.Mathlib.Numerals.{add-one}
 use native.Mathlib.Omega.{arith}
 use lib.Dec.{eqb}
-use lib.ListN.{length}
+use lib.ListN.{length, get_or}
 use Rattle.std.specs.Borrow.{Bor}
 use Rattle.model.specs.Base.{bit}
 use Rattle.model.proofs.BoolLaws.{eq_cases}
 use Rattle.paths_positions.specs.Answer.{any_up_to}
 use Rattle.paths_cells.specs.Pairs.{on_element, down, up, on_leaf, relations, mark_at, is_marked, marked, HasRows, PairPre, MarkPre}
 use Rattle.paths_cells.proofs.MarkLaws.{same_rows, mark_length, mark_here, mark_others}
-use Rattle.paths_rows.specs.Columns.{column_at, role_field}
-use Rattle.paths_rows.specs.Rows.{down_by, either_by, met_by}
+use Rattle.paths_positions.specs.Packed.{root_kind, union_kind}
+use Rattle.paths_rows.specs.Columns.{column_at, is_set_at, first_field, kind_field, role_field, deep_field, element_field, leaf_field}
+use Rattle.paths_rows.specs.Columns.{named_field, low_field, high_field}
+use Rattle.paths_rows.specs.Rows.{is_yes, parent_by, element_by, leaf_by, root_by, down_by, either_by, met_by}
 use Rattle.paths_rows.specs.Rows.{RowMarked, Computes, MarkRowPre, MarkRowPost}
 
 -- AT THE START nothing is marked
@@ -101,9 +103,43 @@ pair_asks t t₁ {m} {i} s e h g a = record { room = same_rows t t₁ m (i + 1) 
 
 -- WHAT HOLDS of column l, from what the calls return
 module _ (c : List ℕ) (l : ℕ) where
+  pub element_by_lem : (ps : List ℕ) (n : Bool) (low high : ℕ) {p a b : Bool} {x y : ℕ} → p ≡ is_yes (get_or ps l 0) →
+      a ≡ is_set_at c element_field l → b ≡ is_set_at c named_field l → x ≡ column_at c low_field l → y ≡ column_at c high_field l →
+      (p && a && (not (n && b) || (eqb x low && eqb y high))) ≡ element_by c ps n low high l
+  element_by_lem ps n low high e f g h i = cc
+
+  pub leaf_by_lem : (ps : List ℕ) {p a : Bool} → p ≡ is_yes (get_or ps l 0) → a ≡ is_set_at c leaf_field l → (p && a) ≡ leaf_by c ps l
+  leaf_by_lem ps e f = cc
+
+  pub root_by_lem : (low high : ℕ) {x y z : ℕ} → x ≡ column_at c low_field l → y ≡ column_at c high_field l →
+      z ≡ column_at c kind_field l →
+      (eqb z root_kind && (eqb x low && eqb y high)) ≡ root_by c low high l
+  root_by_lem low high e f g = cc
+
   pub met_by_lem : (t : List ℕ) (m k role : ℕ) {z : ℕ} {a b : Bool} → z ≡ column_at c role_field l → a ≡ is_marked t m on_element k l →
       b ≡ is_marked t m on_leaf k l → (eqb z role && (a || b)) ≡ met_by t m c k role l
   met_by_lem t m k role e f g = cc
+
+  pub parent_by_lem : (t : List ℕ) (m i j s : ℕ) {p a b : Bool} → j ≡ column_at c first_field l → p ≡ is_set_at c deep_field l →
+      a ≡ is_marked t m s i j → b ≡ is_marked t m down i j → (a || (p && b)) ≡ parent_by t m c i s l
+  parent_by_lem t m i j s e f g h = cc
+
+  pub down_by_lem : {t t₁ : List ℕ} {m k : ℕ} {holds : ℕ → Bool} (i : ℕ) (e d : Bool) {z : ℕ} {a b u : Bool} →
+      RowMarked t m down k holds l t₁ → l < m → z ≡ column_at c kind_field l → a ≡ is_marked t₁ m down i l → b ≡ is_marked t₁ m up i l →
+      u ≡ is_marked t₁ m on_element k l → (u || (e && not (eqb z union_kind) && (a || (d && b)))) ≡ down_by t m c i k e d l
+  down_by_lem {t} {t₁} {m} {k} i e d w h f g n o =
+      let x = g ∙ reads w down i (omega arith) h in
+      let y = n ∙ reads w up i (omega arith) h in
+      let v = o ∙ reads w on_element k (omega arith) h in
+      cc
+
+pub either_by_lem : {t t₁ : List ℕ} {m r k l : ℕ} {holds : ℕ → Bool} (x y : ℕ) {a b : Bool} → RowMarked t m r k holds l t₁ →
+    r < relations →
+    l < m → a ≡ is_marked t₁ m r x l → b ≡ is_marked t₁ m r y l → (a || b) ≡ either_by t m r x y l
+either_by_lem {t} {t₁} {m} {r} x y w g h e f =
+    let u = e ∙ reads w r x g h in
+    let v = f ∙ reads w r y g h in
+    cc
 
 -- what a test reads of the table as it is marked until then, it reads as at the start
 pub down_same : {t t₁ : List ℕ} {m k l : ℕ} {holds : ℕ → Bool} (c : List ℕ) (i : ℕ) (e d : Bool) → RowMarked t m down k holds l t₁ →

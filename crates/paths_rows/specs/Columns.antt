@@ -2,7 +2,8 @@
 use Rattle.std.specs.Prelude.{◌≡◌, Bool, ◌&&◌, ◌||◌, cond, List, [], ◌∷◌, ℕ, ◌+◌, ◌*◌, ◌/◌, ◌%◌, ◌≤◌, ◌<◌, eqb, length, get_or}
 use Rattle.model.specs.Base.{bit}
 use Rattle.model.specs.Meeting.{admits_element, admits_leaf, is_named, is_deep}
-use Rattle.paths_positions.specs.Packed.{Position, step_in, fields_of, over_kind, union_kind}
+use Rattle.paths_positions.specs.declared.packed.Fields.{Fields as Position}
+use Rattle.paths_positions.specs.Packed.{step_in, fields_of, over_kind, union_kind}
 use Rattle.paths_positions.specs.Steps.{max_positions}
 
 -- THE FIELDS by number: the first and the second operand, the kind, the role, whether the step leads past its parent, lets elements

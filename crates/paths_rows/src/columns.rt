@@ -1,11 +1,11 @@
 // Columns: what the filling needs of the second script's positions, a byte for each field of each, made once.
-ghost use Rattle.std.specs.Prelude.{◌≡◌};
-ghost use Rattle.paths_positions.specs.Packed.{fields_in};
-ghost use Rattle.paths_rows.specs.Columns.{fields_by, column_at, is_set_at, FieldPre, AtPre, ColumnPre, ColumnPost, ColumnsPre, Columns};
+ghost use Rattle.std.specs.Prelude.{◌≡◌, ◌<◌};
+ghost use Rattle.paths_rows.specs.Columns.{operand_of, fields_by, column_at, is_set_at, FieldPre, AtPre, ColumnPre, ColumnPost};
+ghost use Rattle.paths_rows.specs.Columns.{ColumnsPre, Columns};
 
 use paths_cells::pairs;
 use paths_positions::POSITIONS;
-use paths_positions::packed::Position;
+use paths_positions::packed::Fields;
 
 // The fields: the number of the first and the second operand, the kind, the role; then yes or no: a descendant step, one that some
 // element passes, one that some leaf passes, one with a name; then the two bytes of the label.
@@ -41,65 +41,46 @@ pub const UNION: u8 = 3;
 // The bytes of all columns.
 pub const SIZE: usize = FIELDS * POSITIONS;
 
-// The fields of a position, in their order. An operand's number is 0 where there is none.
-fn fields(q: Position) -> [u8; FIELDS]
-    requires { FieldPre (fields_in q) }
-    ensures { result ≡ fields_by (fields_in q) }
+// The number of its first operand, 0 where there is none.
+fn operand(q: Fields) -> u8
+    requires { FieldPre q }
+    ensures { result ≡ operand_of q }
 {
-    match q {
-        Position::Nothing => [0; FIELDS],
-        Position::Root { role, document } => {
-            let (low, high) = ((document % 256) as u8, (document / 256) as u8);
-            [0, 0, ROOT, u8::from(role), 0, 0, 0, 0, low, high]
-        }
-        Position::Over {
-            role,
-            step,
-            operand,
-        } => {
-            let deep = pairs::bit(step.is_deep());
-            let element = pairs::bit(step.admits_element());
-            let leaf = pairs::bit(step.admits_leaf());
-            let named = pairs::bit(step.is_named());
-            let name = step.test.name().0;
-            let (low, high) = ((name % 256) as u8, (name / 256) as u8);
-            let role = u8::from(role);
-            [
-                operand as u8,
-                0,
-                OVER,
-                role,
-                deep,
-                element,
-                leaf,
-                named,
-                low,
-                high,
-            ]
-        }
-        Position::Union {
-            role,
-            first,
-            second,
-        } => [
-            first as u8,
-            second as u8,
-            UNION,
-            u8::from(role),
-            0,
-            0,
-            0,
-            0,
-            0,
-            0,
-        ],
+    if (q.kind as u8 == OVER) | (q.kind as u8 == UNION) {
+        return q.first as u8;
     }
+    0
+}
+
+// The fields of a position, in their order.
+fn fields(q: Fields) -> [u8; FIELDS]
+    requires fits { FieldPre q }
+    requires axis { q.axis < 4 }
+    requires test { q.test < 4 }
+    ensures { result ≡ fields_by q }
+{
+    let over = q.kind as u8 == OVER;
+    let step = q.step();
+    [
+        operand(q),
+        q.second as u8,
+        q.kind as u8,
+        q.role as u8,
+        pairs::bit(step.is_deep()),
+        pairs::bit(over & step.admits_element()),
+        pairs::bit(over & step.admits_leaf()),
+        pairs::bit(step.is_named()),
+        (q.label % 256) as u8,
+        (q.label / 256) as u8,
+    ]
 }
 
 // The fields of one position, number l.
-fn column(columns: &mut [u8], l: usize, q: Position)
-    requires { ColumnPre columns.old l (fields_in q) }
-    ensures { ColumnPost columns.old l (fields_in q) columns.new }
+fn column(columns: &mut [u8], l: usize, q: Fields)
+    requires fits { ColumnPre columns.old l q }
+    requires axis { q.axis < 4 }
+    requires test { q.test < 4 }
+    ensures { ColumnPost columns.old l q columns.new }
 {
     let fields = fields(q);
     for f in 0..FIELDS {
@@ -113,7 +94,7 @@ pub fn spread(positions: &[usize], columns: &mut [u8])
     ensures { Columns positions.now columns.new }
 {
     for (l, p) in positions.iter().enumerate() {
-        column(columns, l, Position::unpacked(*p));
+        column(columns, l, Fields::unpacked(*p));
     }
 }
 

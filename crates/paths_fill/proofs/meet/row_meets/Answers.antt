@@ -1,6 +1,7 @@
 -- `meet::row_meets`: by the role of position k.
 use Rattle.std.proofs.Common.{ap, sym, ◌∙◌, arith}
-use Rattle.paths_positions.specs.Packed.{Position, role_number}
+use Rattle.paths_positions.specs.declared.packed.Fields.{Fields as Position}
+use Rattle.paths_positions.specs.Packed.{role_number}
 use Rattle.paths_fill.proofs.TableLaws.{meets_asks, apart_meets, accessed_meets, modified_meets, plain_meets}
 use Rattle.paths_fill.proofs.meet.row_meets.Goals as goal
 

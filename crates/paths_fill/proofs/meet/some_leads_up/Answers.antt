@@ -8,20 +8,23 @@ use Rattle.std.proofs.Math.Seq.{take_all}
 use Rattle.model.specs.Base.{any}
 use Rattle.paths_positions.specs.Positions.{Entry, leads_up}
 use Rattle.paths_positions.specs.Answer.{any_up_to}
-use Rattle.paths_positions.specs.Packed.{position_by, fields_of, entry_of, entries_by, leads_up_at, some_leads_up}
+use Rattle.paths_positions.specs.Packed.{position_by, fields_of, kept_of, entry_of, entries_by, leads_up_at, some_leads_up}
 use Rattle.paths_positions.proofs.AnyUpToLaws.{any_up_to_any}
+use Rattle.paths_positions.proofs.CleanLaws.{leads_up_cleaned}
 use Rattle.paths_fill.proofs.meet.some_leads_up.Goals as goal
 
 abbrev leads : Entry → Bool
 leads x = leads_up x.position
 
 abbrev up : ℕ → Bool
-up w = leads_up (position_by (fields_of w))
+up w = leads_up (position_by (kept_of w))
 
 any_packed : (ws : List ℕ) → any leads (entries_by ws) ≡ list_any up ws
 unfolding any
 any_packed [] = refl
-any_packed (w ∷ ws) = ap (λ (t : Bool). up w || t) (any_packed ws)
+any_packed (w ∷ ws) =
+    ap (λ (t : Bool). t || any leads (entries_by ws)) (sym (leads_up_cleaned (fields_of w))) ∙
+    ap (λ (t : Bool). up w || t) (any_packed ws)
 
 some_is : (ws : List ℕ) → some_leads_up ws ≡ list_any up ws
 some_is ws =

@@ -9,4 +9,4 @@ returns c =
     let self = c.args.self.now in
     subst (λ (w : ℕ). PushPost self.items self.count (fields_in c.args.p) (set self.items self.count w) (self.count + 1) self.count)
     (sym c.packed.ensures.value)
-    (position_pushed c.args.p c.packed.ensures.fits self.items self.count c.requires.room)
+    (position_pushed (fields_in c.args.p) c.packed.ensures.fits self.items self.count c.requires.room)
