@@ -50,7 +50,7 @@ pub fn yegnabit_sweep_table(count: usize, rows: &mut [u32], marks: &mut [u16]) -
             copy::put_table(swept, rows, marks);
             answer::code(0, 0, swept.count)
         }
-        Err(refusal) => answer::code(u8::from(refusal.reason), Whose::Plan as u8, 0),
+        Err(refused) => answer::code(u8::from(refused.refusal.reason), Whose::Plan as u8, 0),
     }
 }
 

@@ -68,6 +68,6 @@ pub fn pair(plan: &[u8], first: &[u8], second: &[u8], out: &mut [u8]) -> Result<
             let analysis = paths::analyse(first, second);
             Ok(answer_lines(out, analysis, table, first, second))
         }
-        Err(refusal) => Ok(line::put_file(out, b"plan", refusal)),
+        Err(refused) => Ok(line::put_file(out, b"plan", refused.refusal)),
     }
 }

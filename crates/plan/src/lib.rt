@@ -3,22 +3,28 @@
 
 ghost use Rattle.std.specs.Prelude.{◌≡◌};
 ghost use Rattle.plan.specs.Calls.{plan_read};
-ghost use Rattle.model.specs.Table.{empty};
-ghost use Rattle.plan_table.specs.Packed.{encode};
 ghost use Rattle.plan_table.specs.Results.{bytes_by, table_by};
 ghost use Rattle.plan_writer.specs.Writing.{plan_written, written_out};
 
 use plan_reader::read;
-use plan_table::{Reason, Refusal, Table, fit};
+use plan_table::{Reason, Refusal, Refused, Table, fit};
 use plan_writer::write;
 
-// Reads a stored plan.
-pub fn read_plan(bytes: &[u8]) -> Result<Table, Refusal>
-    ensures { table_by (encode empty) result ≡ plan_read bytes.now }
+// Reads a stored plan; refused, the table given back is the empty one.
+pub fn read_plan(bytes: &[u8]) -> Result<Table, Refused<Table>>
+    ensures { table_by result ≡ plan_read bytes.now }
 {
     let mut table = Table::empty();
-    table.count = read::records(bytes, &mut table.rows, &mut table.marks)?;
-    Ok(table)
+    match read::records(bytes, &mut table.rows, &mut table.marks) {
+        Ok(count) => {
+            table.count = count;
+            Ok(table)
+        }
+        Err(refusal) => Err(Refused {
+            refusal,
+            left: Table::empty(),
+        }),
+    }
 }
 
 // Writes a table in its stored form. 6 before 11; bytes past the stored length stay; refused, nothing is written.

@@ -5,18 +5,22 @@ ghost use Rattle.std.specs.Prelude.{◌≡◌};
 ghost use Rattle.plan_table.specs.Results.{table_by};
 ghost use Rattle.plan_sweep.specs.Sweeping.{plan_swept};
 
-use plan_table::{Reason, Refusal, Table, fit};
+use plan_table::{Reason, Refusal, Refused, Table, fit};
 
 pub mod sweep;
 
-// Drops each row that is neither marked nor below a marked row.
-pub fn sweep_table(table: Table) -> Result<Table, Refusal>
-    ensures { table_by table result ≡ plan_swept table }
+// Drops each row that is neither marked nor below a marked row; refused, the table is as it was handed in.
+pub fn sweep_table(table: Table) -> Result<Table, Refused<Table>>
+    ensures { table_by result ≡ plan_swept table }
 {
     if !fit::fits(&table) {
-        return Err(Refusal {
+        let refusal = Refusal {
             reason: Reason::Link,
             place: 0,
+        };
+        return Err(Refused {
+            refusal,
+            left: table,
         });
     }
     Ok(sweep::fitting(&table))

@@ -6,6 +6,7 @@ use Rattle.plan_table.specs.Packed.{encode, table_of}
 use Rattle.plan_table.specs.Refusals.{number_of, refusal_in}
 use Rattle.plan_table.specs.declared.Reason.{Reason}
 use Rattle.plan_table.specs.declared.Refusal.{Refusal}
+use Rattle.plan_table.specs.declared.Refused.{Refused}
 use Rattle.plan_table.specs.declared.Table.{Table}
 
 -- THE ANSWER of a call that gives a table back: the refusal or none, and the table
@@ -56,10 +57,10 @@ abbrev pub refusal_by : {A : Type 0} → Result A Refusal → refusal.Refusal
 refusal_by (Ok x) = refusal.fine
 refusal_by (Err e) = refusal_in e
 
--- the table; refused, another one
-abbrev pub table_by : Table → Result Table Refusal → TableResult
-table_by t (Ok u) = with_table refusal.fine u
-table_by t (Err e) = with_table (refusal_in e) t
+-- the refusal or none, and the table given back
+abbrev pub table_by : Result Table (Refused Table) → TableResult
+table_by (Ok u) = with_table refusal.fine u
+table_by (Err e) = with_table (refusal_in e.refusal) e.left
 
 -- of a call on a lent table: what it then holds; refused, another one
 abbrev pub lent_by : {A : Type 0} → (other lent : Table) → Result A Refusal → TableResult

@@ -94,6 +94,13 @@ pub struct Refusal {
     pub place: usize,
 }
 
+// A call refused, with what it gives back all the same, such as the table that it was handed.
+#[derive(Clone, Copy)]
+pub struct Refused<T> {
+    pub refusal: Refusal,
+    pub left: T,
+}
+
 // One of two scripts, by document 01's numbers.
 #[derive(Clone, Copy, Debug, PartialEq, Eq)]
 pub enum Script {

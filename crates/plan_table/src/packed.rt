@@ -14,7 +14,8 @@ pub fn kind(w: u32) -> u32
     w % 4
 }
 
-// Whether it is a leaf. Its kind stays a number: a table handed in may have any two bits there, which is_leaf and fits read as they are.
+// Whether it is a leaf. Its kind stays a number: a table handed in may have any two bits there, and whoever asks for the kind reads them
+// as they are.
 pub fn is_leaf(w: u32) -> bool
     ensures { result ≡ eqb (kind_in w) leaf_bits }
 {

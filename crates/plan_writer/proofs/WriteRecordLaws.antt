@@ -8,12 +8,18 @@ use native.Mathlib.Nat.{add-zero}
 use lib.ListN.{length, get_or, take, length-append, length-map}
 use lib.Seq.{take_all, length-take-le}
 use Rattle.model.specs.Table as model
-use Rattle.model.specs.Stored.{row_bytes, rows_bytes, mark_bytes, marks_bytes}
+use Rattle.model.specs.Stored.{parent_bytes, row_bytes, rows_bytes, mark_bytes, marks_bytes}
 use Rattle.model.proofs.BytesLaws.{length_parent_bytes, rows_bytes_snoc}
-use Rattle.plan_table.specs.Packed.{of_link, row_of, rows_of}
+use Rattle.plan_table.specs.Packed.{tag_in, link_in, of_link, row_of, rows_of}
 use Rattle.model.specs.Base.{over}
 use Rattle.plan_table.proofs.PackedLaws.{count_decode, take_rows}
 use Rattle.model.proofs.ListLaws.{take_next, over_over, over_nil}
+
+-- A RECORD'S BYTES, from the name or value and the link that are put
+pub row_bytes_lem : (w k t l : ℕ) → t ≡ tag_in w → l ≡ link_in w →
+    k ∷ t ∷ parent_bytes (of_link l) ≡ k ∷ tag_in w ∷ parent_bytes (of_link (link_in w))
+row_bytes_lem w k t l e f = ap (λ (j : ℕ). k ∷ t ∷ parent_bytes (of_link j)) f ∙
+    ap (λ (j : ℕ). k ∷ j ∷ parent_bytes (of_link (link_in w))) e
 
 -- ROWS, one more
 length_row_bytes : (r : model.Row) → length (row_bytes r) ≡ 4

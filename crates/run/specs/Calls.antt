@@ -8,8 +8,9 @@ use Rattle.model.specs.Call.{Ran, ran_by, in_areas}
 use Rattle.model.specs.Call as call
 use Rattle.plan_table.specs.Packed.{encode, decode, fits}
 use Rattle.plan_table.specs.Results.{refusal_of}
-use Rattle.plan_table.specs.Refusals.{number_of}
+use Rattle.plan_table.specs.Refusals.{number_of, refusal_in}
 use Rattle.plan_table.specs.declared.Refusal.{Refusal}
+use Rattle.plan_table.specs.declared.Refused.{Refused}
 use Rattle.plan_table.specs.declared.Table.{Table}
 use Rattle.run_updates.specs.Tallying.{none_yet}
 use Rattle.run_updates.specs.declared.tally.Tally.{Tally}
@@ -74,11 +75,20 @@ result_in t e u = result_with e (cond (eqb e.refusal.number 0) u t)
 abbrev pub refused_end : (number place : ℕ) → Ended
 refused_end n i = record { refusal = record { number = n; place = i }; items = 0; bytes = 0; tally = none_yet }
 
--- what the calls answer, told so: refused, all else is zero, and the table another one
-abbrev pub run_by : Table → Result whole.RunResult Refusal → RunResult
-run_by t (Ok r) = record { refusal = refusal.fine; table = r.table; items = r.items; bytes = r.bytes; tally = r.tally }
-run_by t (Err x) = refused_result (number_of x.reason) x.place t
+-- a refusal or none, and what the call gives back with it
+abbrev pub run_with : refusal.Refusal → whole.RunResult → RunResult
+run_with f r = record { refusal = f; table = r.table; items = r.items; bytes = r.bytes; tally = r.tally }
 
+-- what the call answers, told so
+abbrev pub run_by : Result whole.RunResult (Refused whole.RunResult) → RunResult
+run_by (Ok r) = run_with refusal.fine r
+run_by (Err x) = run_with (refusal_in x.refusal) x.left
+
+-- refused, it gives back the table that it was handed, and all else zero
+abbrev pub given_back : Refusal → Table → Refused whole.RunResult
+given_back x t = record { refusal = x; left = record { table = t; items = 0; bytes = 0; tally = none_yet } }
+
+-- how a run on a lent table ended, told so: refused, all else is zero
 abbrev pub ended_by : Result lent.Ended Refusal → Ended
 ended_by (Ok e) = record { refusal = refusal.fine; items = e.items; bytes = e.bytes; tally = e.tally }
 ended_by (Err x) = refused_end (number_of x.reason) x.place

@@ -1,5 +1,6 @@
 // A run on a lent table that fits, in areas that are long enough.
-ghost use Rattle.std.specs.Prelude.{◌≡◌, true};
+ghost use Rattle.std.specs.Prelude.{◌≡◌, true, ◌≤◌, length, OnErr};
+ghost use Rattle.model.specs.Base.{at_front};
 ghost use Rattle.model.specs.Call.{areas_fit};
 ghost use Rattle.model.specs.Limits.{max_depth};
 ghost use Rattle.plan_table.specs.Packed.{fits};
@@ -49,7 +50,7 @@ fn evaluated(
             marks,
             index: &none,
         };
-        return evaluate::eval(program, 0, Table::DEPTH, 0, env, rows, history, work, 0, p);
+        return evaluate::eval(&program, 0, Table::DEPTH, 0, env, rows, history, work, 0, p);
     }
     let mut index = [0u16; index::SIZE];
     index::build(rows, p.count, &mut index);
@@ -58,7 +59,17 @@ fn evaluated(
         marks,
         index: &index,
     };
-    evaluate::eval(program, 0, Table::DEPTH, 0, env, rows, history, work, 0, p)
+    evaluate::eval(&program, 0, Table::DEPTH, 0, env, rows, history, work, 0, p)
+}
+
+// Puts a value at the front of an area, item by item: copy_from_slice calls memmove, which a C program would have to bring.
+fn put(area: &mut [u16], value: &[u16])
+    requires { length value.now ≤ length area.old }
+    ensures { area.new ≡ at_front value.now area.old }
+{
+    for j in 0..value.len() {
+        area[j] = value[j];
+    }
 }
 
 // The run, answer and history cleared.
@@ -74,6 +85,7 @@ fn run_in(
     ensures run_post { RunPost table.old script.now answer.old history.old work.old
         table.new answer.new history.new (ended_by result) }
     ensures marks_after { table.new.marks ≡ table.old.marks }
+    ensures count_after { OnErr result (table.new.count ≡ table.old.count) }
 {
     script::read_script(script)?;
     let unbound = [Span { start: 0, len: 0 }; Table::BINDERS];
@@ -94,7 +106,7 @@ fn run_in(
         }
     };
     let items = x.end;
-    answer[..items].copy_from_slice(&work[..items]);
+    put(answer, &work[0..items]);
     let p = x.progress;
     let tally = p.tally;
     table.count = p.count;
@@ -118,6 +130,7 @@ pub fn fitting(
     ensures table_after { result_in table.old (ended_by result) table.new ≡
         run_result table.old script.now answer.old history.old work.old }
     ensures marks_after { table.new.marks ≡ table.old.marks }
+    ensures count_after { OnErr result (table.new.count ≡ table.old.count) }
     ensures answer_after { answer.new ≡
         (ran table.old script.now answer.old history.old work.old).answer }
     ensures history_after { history.new ≡

@@ -29,7 +29,7 @@ pub struct Program<'a> {
 // A join, an insert or a let after its first operand, x: the second value stands behind the first.
 #[cycle(binary_branch_each_eval_iterate)]
 fn binary(
-    program: Program<'_>,
+    program: &Program<'_>,
     kind: Kind,
     at: usize,
     left: usize,
@@ -40,11 +40,11 @@ fn binary(
     top: usize,
     x: Evaluated,
 ) -> Result<Evaluated, Refusal>
-    requires rest_pre { RestPre program.script.now (byte_of kind) left (frame bound program.marks.now top)
+    requires rest_pre { RestPre program.now.script.now (byte_of kind) left (frame bound program.now.marks.now top)
         (machine rows.old history.old work.old (going_on x)) }
-    requires index_held { IndexHeld program.index.now rows.old x.progress.count }
-    ensures { RestPost (binary_rest program.entry.script.now (byte_of kind) at left) (end_at program.entry.script.now x.place)
-        (frame bound program.entry.marks.now top) (machine rows.old history.old work.old (going_on x))
+    requires index_held { IndexHeld program.now.index.now rows.old x.progress.count }
+    ensures { RestPost (binary_rest program.now.script.now (byte_of kind) at left) (end_at program.now.script.now x.place)
+        (frame bound program.now.marks.now top) (machine rows.old history.old work.old (going_on x))
         (machine rows.new history.new work.new (came_out result)) }
 {
     let mid = x.end;
@@ -60,7 +60,7 @@ fn binary(
 // An if after its first operand, x: the second operand where x is not empty, else the third.
 #[cycle(binary_branch_each_eval_iterate)]
 fn branch(
-    program: Program<'_>,
+    program: &Program<'_>,
     left: usize,
     bound: usize,
     rows: &mut [u32],
@@ -69,13 +69,13 @@ fn branch(
     top: usize,
     x: Evaluated,
 ) -> Result<Evaluated, Refusal>
-    requires rest_pre { RestPre program.script.now if_kind left (frame bound program.marks.now top)
+    requires rest_pre { RestPre program.now.script.now if_kind left (frame bound program.now.marks.now top)
         (machine rows.old history.old work.old (going_on x)) }
-    requires accepted { Accepted program.script.now (end_at program.script.now x.place) left bound }
-    requires index_held { IndexHeld program.index.now rows.old x.progress.count }
-    ensures { RestPost (if_rest program.entry.script.now left)
-        (end_at program.entry.script.now (end_at program.entry.script.now x.place))
-        (frame bound program.entry.marks.now top) (machine rows.old history.old work.old (going_on x))
+    requires accepted { Accepted program.now.script.now (end_at program.now.script.now x.place) left bound }
+    requires index_held { IndexHeld program.now.index.now rows.old x.progress.count }
+    ensures { RestPost (if_rest program.now.script.now left)
+        (end_at program.now.script.now (end_at program.now.script.now x.place))
+        (frame bound program.now.marks.now top) (machine rows.old history.old work.old (going_on x))
         (machine rows.new history.new work.new (came_out result)) }
 {
     let scope = x.env;
@@ -92,7 +92,7 @@ fn branch(
 // A for after its first operand, x: its items stand from top on, its results behind them.
 #[cycle(binary_branch_each_eval_iterate)]
 fn iterate(
-    program: Program<'_>,
+    program: &Program<'_>,
     at: usize,
     left: usize,
     bound: usize,
@@ -102,11 +102,11 @@ fn iterate(
     top: usize,
     x: Evaluated,
 ) -> Result<Evaluated, Refusal>
-    requires rest_pre { RestPre program.script.now for_kind left (frame bound program.marks.now top)
+    requires rest_pre { RestPre program.now.script.now for_kind left (frame bound program.now.marks.now top)
         (machine rows.old history.old work.old (going_on x)) }
-    requires index_held { IndexHeld program.index.now rows.old x.progress.count }
-    ensures { RestPost (for_rest program.entry.script.now at left) (end_at program.entry.script.now x.place)
-        (frame bound program.entry.marks.now top) (machine rows.old history.old work.old (going_on x))
+    requires index_held { IndexHeld program.now.index.now rows.old x.progress.count }
+    ensures { RestPost (for_rest program.now.script.now at left) (end_at program.now.script.now x.place)
+        (frame bound program.now.marks.now top) (machine rows.old history.old work.old (going_on x))
         (machine rows.new history.new work.new (came_out result)) }
 {
     let mid = x.end;
@@ -124,7 +124,7 @@ fn iterate(
 // The items between two places: the first, then the others by halves. The results so far stand from top to end. 8 is at the for's place.
 #[cycle(binary_branch_each_eval_iterate)]
 fn each(
-    program: Program<'_>,
+    program: &Program<'_>,
     place: usize,
     at: usize,
     left: usize,
@@ -139,10 +139,10 @@ fn each(
     end: usize,
     p: Progress,
 ) -> Result<Evaluated, Refusal>
-    requires each_pre { EachPre program.script.now left (loop_of place from to) (frame bound program.marks.now top)
+    requires each_pre { EachPre program.now.script.now left (loop_of place from to) (frame bound program.now.marks.now top)
         (machine rows.old history.old work.old (begun (going p) at end env)) }
-    requires index_held { IndexHeld program.index.now rows.old p.count }
-    ensures { EachPost program.entry.script.now left (loop_of place from to) (frame bound program.entry.marks.now top)
+    requires index_held { IndexHeld program.now.index.now rows.old p.count }
+    ensures { EachPost program.now.script.now left (loop_of place from to) (frame bound program.now.marks.now top)
         (machine rows.old history.old work.old (begun (going p) at end env))
         (machine rows.new history.new work.new (came_out result)) }
 {
@@ -173,7 +173,7 @@ fn each(
 // The expression at a place, its value to stand from top on.
 #[cycle(binary_branch_each_eval_iterate)]
 pub fn eval(
-    program: Program<'_>,
+    program: &Program<'_>,
     at: usize,
     left: usize,
     bound: usize,
@@ -184,10 +184,10 @@ pub fn eval(
     top: usize,
     p: Progress,
 ) -> Result<Evaluated, Refusal>
-    requires eval_pre { EvalPre program.script.now left (frame bound program.marks.now top)
+    requires eval_pre { EvalPre program.now.script.now left (frame bound program.now.marks.now top)
         (machine rows.old history.old work.old (begun (going p) at top env)) }
-    requires index_held { IndexHeld program.index.now rows.old p.count }
-    ensures { EvalPost program.entry.script.now left (frame bound program.entry.marks.now top)
+    requires index_held { IndexHeld program.now.index.now rows.old p.count }
+    ensures { EvalPost program.now.script.now left (frame bound program.now.marks.now top)
         (machine rows.old history.old work.old (begun (going p) at top env))
         (machine rows.new history.new work.new (came_out result)) }
 {

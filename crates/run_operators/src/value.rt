@@ -16,13 +16,18 @@ pub struct Span {
     pub len: u16,
 }
 
-// Copies the value between two places to another; the place past it.
+// Copies the value between two places to another; the place past it. Item by item: copy_within calls memmove, which a C program would have
+// to bring, and which takes longer for the one item that most values are.
 pub fn copied(work: &mut [u16], from: usize, to: usize, top: usize) -> usize
     requires { CopyPre work.old from to top }
     ensures { Appended (value_at work.old from to) work.old top work.new result }
 {
-    work.copy_within(from..to, top);
-    top + (to - from)
+    let mut at = top;
+    for k in from..to {
+        work[at] = work[k];
+        at += 1;
+    }
+    at
 }
 
 // A document's marked row, as a value from top on.

@@ -1,5 +1,5 @@
 // Undo: a history's form front to back, then its records back to front.
-ghost use Rattle.std.specs.Prelude.{◌≡◌, true, ◌<◌, ◌≤◌, eqb, length, get_or, Ok};
+ghost use Rattle.std.specs.Prelude.{◌≡◌, true, ◌<◌, ◌≤◌, eqb, length, get_or, Ok, OnErr};
 ghost use Rattle.model.specs.History.{made_leaf_kind, made_size, cut_size};
 ghost use Rattle.model.specs.Limits.{max_history};
 ghost use Rattle.model.specs.Stored.{parent_in, number_at};
@@ -170,6 +170,7 @@ pub fn fitting(table: &mut Table, history: &[u8]) -> Result<(), Refusal>
     requires { fits table.old ≡ true }
     ensures table_after { lent_by table.old table.new result ≡ plan_undone table.old history.now }
     ensures marks_after { table.new.marks ≡ table.old.marks }
+    ensures count_after { OnErr result (table.new.count ≡ table.old.count) }
 {
     let mut places = [0u16; Table::HISTORY_RECORDS];
     let records = form(history, &mut places)?;

@@ -5,7 +5,7 @@ use mathlib.Core.List.{List}
 use Prim.Native.Nat.{ℕ, suc, ◌+◌, ◌-◌, ◌≤◌, ◌<◌}
 use native.Mathlib.Omega.{arith}
 use lib.ListN.{length, get_or, take, drop}
-use Rattle.std.specs.Prelude.{Result, Ok, Err}
+use Rattle.std.specs.Prelude.{Result, Ok}
 use Rattle.model.specs.Limits.{max_records, max_depth}
 use Rattle.model.specs.Refusal.{is_fine, refusal_at}
 use Rattle.model.specs.Script.{Expr, nil, Parsed, refused, parsed, then_parse, expr_refusal, body_size, arity}
@@ -14,14 +14,12 @@ use Rattle.model.proofs.ScriptLaws.{Sound, sound_numbered, parse_sound}
 use Rattle.script_records.specs.Walk.{inner, first_at, second_at, third_at, expr_of, expr_at}
 use Rattle.script_records.specs.Kinds.{byte_of}
 use Rattle.script_records.specs.declared.kinds.Kind.{Kind}
-use Rattle.script.specs.Reading.{parse_at, end_by, end_of, expression_read, parsed_by, HeadKind, HeadPost, ExpressionPre, ExpressionPost}
+use Rattle.script.specs.Reading.{parse_at, end_by, end_of, expression_read, HeadKind, HeadPost, ExpressionPre, ExpressionPost}
 use Rattle.script.specs.Accepted.{RecordFits}
 use Rattle.plan_table.specs.Refusals.{number_of}
 use Rattle.plan_table.specs.Results.{End, number_by}
 use Rattle.plan_table.specs.declared.Reason.{Reason}
-use Rattle.plan_table.specs.declared.Refusal as error
 use Rattle.plan_table.proofs.ReasonLaws.{some_number}
-use Rattle.script.specs.declared.read.Parsed as found
 use Rattle.script.proofs.HeadLaws.{fine_fits, fine_records}
 use Rattle.script.proofs.ParseLaws.{reader, after_record, after_first, after_second, after_third, parse_refused, parse_operands}
 use Rattle.script.proofs.ParseLaws.{after_none, after_record_lem, after_one, after_first_lem, after_two, after_second_lem}
@@ -107,10 +105,6 @@ module _ {b : List ℕ} {i left n v : ℕ} {k : Kind} (h : Headed b i left n v k
             sym (ap end_of (operands_at ∙ after_none (left - 1) (get_or b i 0) b i v (first_at b i) (n + 1) (drop (first_at b i) b) z));
       }
 
--- the reader's answer where it is refused
-abbrev failed : error.Refusal → End
-failed e = end_by (number_of e.reason) e.place 0
-
 -- AFTER THE FIRST OPERAND
 pub record FirstRead (b : List ℕ) (i left n v : ℕ) (k : Kind) (r : End) : Type 0 where
   pub head : Headed b i left n v k
@@ -143,15 +137,14 @@ module _ {b : List ℕ} {i left n v : ℕ} {k : Kind} {r : End} (f : FirstRead b
             (λ e j m c. after_one (left - 1) (get_or b i 0) b i v j m c e a) ∙ sym (ap end_of after_record_read);
       }
 
-pub first_failed : {b : List ℕ} {i left n v : ℕ} {k : Kind} {e : error.Refusal} {y : Result found.Parsed error.Refusal} →
-    FirstRead b i left n v k (failed e) → y ≡ Err e → ExpressionPost b i left n v (parsed_by y)
-first_failed {b} {i} {left} {n} {v} {e = e} f h =
-    rw h
-    (record {
+pub first_failed : {b : List ℕ} {i left n v p : ℕ} {k : Kind} (y : Reason) →
+    FirstRead b i left n v k (end_by (number_of y) p 0) → ExpressionPost b i left n v (end_by (number_of y) p 0)
+first_failed {b} {i} {left} {n} {v} {p} y f =
+    record {
       read =
-          then_refused (parse_at b (first_at b i) (left - 1) (n + 1) v) (after_first (left - 1) (get_or b i 0) b i v) (failed e) f.read
-          (some_number e.reason) ∙ sym (ap end_of (after_record_read f));
-    })
+          then_refused (parse_at b (first_at b i) (left - 1) (n + 1) v) (after_first (left - 1) (get_or b i 0) b i v)
+          (end_by (number_of y) p 0) f.read (some_number y) ∙ sym (ap end_of (after_record_read f));
+    }
 
 module _ {b : List ℕ} {i left n v p m : ℕ} {k : Kind} (f : FirstRead b i left n v k (end_by 0 p m)) where
   first_ended : Ended (parse_at b (first_at b i) (left - 1) (n + 1) v) (end_by 0 p m)
@@ -206,16 +199,14 @@ module _ {b : List ℕ} {i left n v p m : ℕ} {k : Kind} {s : End} (f : SecondR
             (λ e j m c. after_two (left - 1) (get_or b i 0) b i v j m c x e a) ∙ sym (ap end_of after_first_read);
       }
 
-pub second_failed : {b : List ℕ} {i left n v p m : ℕ} {k : Kind} {e : error.Refusal} {y : Result found.Parsed error.Refusal} →
-    SecondRead b i left n v k p m (failed e) → y ≡ Err e → ExpressionPost b i left n v (parsed_by y)
-second_failed {b} {i} {left} {n} {v} {p} {m} {e = e} f h =
-    rw h
-    (record {
+pub second_failed : {b : List ℕ} {i left n v p m j : ℕ} {k : Kind} (y : Reason) →
+    SecondRead b i left n v k p m (end_by (number_of y) j 0) → ExpressionPost b i left n v (end_by (number_of y) j 0)
+second_failed {b} {i} {left} {n} {v} {p} {m} {j} y f =
+    record {
       read =
-          then_refused (parse_at b p (left - 1) m (inner (get_or b i 0) v)) (after_second (left - 1) (get_or b i 0) b i v (x f)) (failed e)
-          f.read
-          (some_number e.reason) ∙ sym (ap end_of (after_first_read f));
-    })
+          then_refused (parse_at b p (left - 1) m (inner (get_or b i 0) v)) (after_second (left - 1) (get_or b i 0) b i v (x f))
+          (end_by (number_of y) j 0) f.read (some_number y) ∙ sym (ap end_of (after_first_read f));
+    }
 
 module _ {b : List ℕ} {i left n v p m j l : ℕ} {k : Kind} (f : SecondRead b i left n v k p m (end_by 0 j l)) where
   second_ended : Ended (parse_at b p (left - 1) m (inner (get_or b i 0) v)) (end_by 0 j l)

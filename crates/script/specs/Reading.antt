@@ -6,7 +6,6 @@ use Rattle.model.specs.Refusal.{Refusal}
 use Rattle.model.specs.Script.{Parsed, refused, parsed, parse_from, read_script, expr_refusal, body_size, body_fits, refusal_by}
 use Rattle.plan_table.specs.Refusals.{number_of}
 use Rattle.plan_table.specs.Results.{End, refusal_of}
-use Rattle.plan_table.specs.declared.Refusal as error
 use Rattle.plan_table.specs.declared.Reason.{Reason}
 use Rattle.script_records.specs.Kinds.{byte_of}
 use Rattle.script_records.specs.declared.kinds.Kind.{Kind}
@@ -24,10 +23,10 @@ parse_at b i k n v = parse_from (suc (suc k)) (max_depth + 1 - k) i n v (drop i 
 abbrev pub end_by : (number place records : ℕ) → End
 end_by n i m = record { number = n; place = i; count = m }
 
--- of what the reader answers
-abbrev pub parsed_by : Result found.Parsed error.Refusal → End
-parsed_by (Ok x) = end_by 0 x.place x.records
-parsed_by (Err e) = end_by (number_of e.reason) e.place 0
+-- of what the reader answers, and where it stands then
+abbrev pub parsed_by : {A : Type 0} → Result A Reason → found.Parsed → End
+parsed_by (Ok u) x = end_by 0 x.place x.records
+parsed_by (Err r) x = end_by (number_of r) x.place 0
 
 -- of what is parsed
 abbrev pub end_of : Parsed → End

@@ -9,16 +9,23 @@ use plan_table::{Reason, Refusal, Table};
 
 mod read;
 
+use read::Parsed;
+
 // The refusal of a script, if it is refused: bytes after the whole come last.
 pub fn read_script(bytes: &[u8]) -> Result<(), Refusal>
     ensures { refusal_by result ≡ script_read bytes.now }
 {
-    let whole = read::expression(bytes, 0, Table::DEPTH, 0, 0)?;
-    if whole.place < bytes.len() {
-        return Err(Refusal {
-            reason: Reason::Tail,
-            place: whole.place,
-        });
-    }
-    Ok(())
+    let mut whole = Parsed {
+        place: 0,
+        records: 0,
+    };
+    let reason = match read::expression(bytes, Table::DEPTH, 0, &mut whole) {
+        Ok(()) if whole.place < bytes.len() => Reason::Tail,
+        Ok(()) => return Ok(()),
+        Err(reason) => reason,
+    };
+    Err(Refusal {
+        reason,
+        place: whole.place,
+    })
 }

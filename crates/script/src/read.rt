@@ -4,7 +4,7 @@ ghost use Rattle.plan_table.specs.Results.{number_by};
 ghost use Rattle.script_records.specs.Kinds.{byte_of};
 ghost use Rattle.script.specs.Reading.{BodyPre, BodyPost, HeadKind, HeadPost, ExpressionPre, ExpressionPost, parsed_by};
 
-use plan_table::{Reason, Refusal, Table};
+use plan_table::{Reason, Table};
 use script_records::kinds::Kind;
 use script_records::pick::Relation;
 use script_records::step::Step;
@@ -54,44 +54,41 @@ fn head(s: &[u8], left: usize, records: usize, bound: usize) -> Result<Kind, Rea
     Err(Reason::Field)
 }
 
-// An expression that is read: the place past it, and the records so far, its own with them.
+// Where a script is read on, and the records before that place.
 #[derive(Clone, Copy)]
 pub struct Parsed {
     pub place: usize,
     pub records: usize,
 }
 
-// Reads the expression at a place; `records` stand before it. `left` is how deep it may be. The last operand's result is its own, which is
-// twice as fast as looking at that result first (measured: 15 steps, each of the next one).
+// Reads the expression at the place in `parsed`, which takes the place past it and the records so far, its own with them; refused, the
+// refusal's place. `left` is how deep it may be. The reason alone is answered, and the last operand's result is the expression's own: that
+// takes two thirds of the time that a `Result<Parsed, Refusal>` took (measured: 15 ifs with empty operands).
 pub fn expression(
     bytes: &[u8],
-    at: usize,
     left: usize,
     bound: usize,
-    records: usize,
-) -> Result<Parsed, Refusal>
-    requires { ExpressionPre bytes.now at left }
-    ensures { ExpressionPost bytes.now at left records bound (parsed_by result) }
+    parsed: &mut Parsed,
+) -> Result<(), Reason>
+    requires { ExpressionPre bytes.now parsed.old.place left }
+    ensures { ExpressionPost bytes.now parsed.old.place left parsed.old.records bound (parsed_by result parsed.new) }
 {
-    let kind = head(&bytes[at..], left, records, bound).map_err(|reason| Refusal {
-        reason,
-        place: at,
-    })?;
-    let operands = kind.arity();
-    let place = at + (1 + kind.body_size());
-    let records = records + 1;
+    let kind = head(&bytes[parsed.place..], left, parsed.records, bound)?;
+    let (body, operands) = kind.sizes();
+    parsed.place += 1 + body;
+    parsed.records += 1;
     if operands == 0 {
-        return Ok(Parsed { place, records });
+        return Ok(());
     }
     let left = left - 1;
     if operands == 1 {
-        return expression(bytes, place, left, bound, records);
+        return expression(bytes, left, bound, parsed);
     }
-    let first = expression(bytes, place, left, bound, records)?;
+    expression(bytes, left, bound, parsed)?;
     let inside = kind.inner(bound);
     if operands == 2 {
-        return expression(bytes, first.place, left, inside, first.records);
+        return expression(bytes, left, inside, parsed);
     }
-    let second = expression(bytes, first.place, left, inside, first.records)?;
-    expression(bytes, second.place, left, bound, second.records)
+    expression(bytes, left, inside, parsed)?;
+    expression(bytes, left, bound, parsed)
 }

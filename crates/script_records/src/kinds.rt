@@ -51,33 +51,39 @@ impl TryFrom<u8> for Kind {
 }
 
 impl Kind {
-    // Bytes of a body.
+    // Bytes of a body, and operands of a record: one table, since who reads a script asks for both.
     #[tactic(auto, unfolding(model::specs::Script::script_kinds))]
+    pub fn sizes(self) -> (usize, usize)
+        ensures body { result.0 ≡ body_size (byte_of self) }
+        ensures operands { result.1 ≡ arity (byte_of self) }
+        ensures body_bound { result.0 < 4 }
+        ensures operands_bound { result.1 < 4 }
+    {
+        match self {
+            Kind::Nil => (0, 0),
+            Kind::Document | Kind::Variable | Kind::NewElement | Kind::NewLeaf => (1, 0),
+            Kind::Step => (3, 1),
+            Kind::Delete => (0, 1),
+            Kind::Pick => (2, 1),
+            Kind::Join | Kind::Let | Kind::For | Kind::Insert => (0, 2),
+            Kind::If => (0, 3),
+        }
+    }
+
+    // Bytes of a body.
     pub fn body_size(self) -> usize
         ensures value { result ≡ body_size (byte_of self) }
         ensures upper_bound { result < 4 }
     {
-        match self {
-            Kind::Document | Kind::Variable | Kind::NewElement | Kind::NewLeaf => 1,
-            Kind::Pick => 2,
-            Kind::Step => 3,
-            Kind::Nil | Kind::Join | Kind::Let | Kind::For | Kind::If | Kind::Delete => 0,
-            Kind::Insert => 0,
-        }
+        self.sizes().0
     }
 
     // Operands of a record.
-    #[tactic(auto, unfolding(model::specs::Script::script_kinds))]
     pub fn arity(self) -> usize
         ensures value { result ≡ arity (byte_of self) }
         ensures upper_bound { result < 4 }
     {
-        match self {
-            Kind::Nil | Kind::Document | Kind::Variable | Kind::NewElement | Kind::NewLeaf => 0,
-            Kind::Step | Kind::Delete | Kind::Pick => 1,
-            Kind::Join | Kind::Let | Kind::For | Kind::Insert => 2,
-            Kind::If => 3,
-        }
+        self.sizes().1
     }
 
     // Let and for bind a variable in their second operand.

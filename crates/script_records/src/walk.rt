@@ -10,7 +10,7 @@ fn sizes(byte: u8) -> (usize, usize)
     ensures { (result.0 ≡ body_size byte) × (result.1 ≡ arity byte) }
 {
     match Kind::try_from(byte) {
-        Ok(kind) => (kind.body_size(), kind.arity()),
+        Ok(kind) => kind.sizes(),
         Err(_) => (0, 0),
     }
 }

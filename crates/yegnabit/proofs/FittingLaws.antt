@@ -3,7 +3,9 @@ use mathlib.Core.Path.{◌≡◌, refl, ap, ◌∙◌}
 use mathlib.Core.Bool.{true}
 use mathlib.Core.List.{List}
 use Prim.Native.Nat.{ℕ}
+use lib.ListN.{length}
 use Rattle.model.specs.Base.{are_bytes}
+use Rattle.model.specs.Limits.{max_rows, documents}
 use Rattle.model.specs.Refusal.{refusal, fine}
 use Rattle.model.specs.Sweep.{swept}
 use Rattle.model.specs.Table as model
@@ -12,7 +14,8 @@ use Rattle.model.proofs.BoolLaws.{cond_true}
 use Rattle.model.proofs.SweepsWell.{sweeps_well}
 use Rattle.model.proofs.UndoKeeps.{undo_keeps}
 use Rattle.plan_reader.specs.Reading.{ReadPost}
-use Rattle.plan_table.specs.Packed.{encode, decode, fits, table_of}
+use Rattle.plan_table.specs.Fitting.{TableSizes}
+use Rattle.plan_table.specs.Packed.{encode, decode, fits, parts_fit, table_of}
 use Rattle.plan_table.specs.Results.{with_table}
 use Rattle.plan.specs.Calls.{plan_read}
 use Rattle.plan.proofs.ReadPlanLaws.{plan_refused, plan_read_lem, read_fits}
@@ -34,6 +37,11 @@ module _ (p ws ms : List ℕ) (r : End) (post : ReadPost p ws ms r) where
 
     pub table_fits : are_bytes p ≡ true → fits (table_of r.count ws ms) ≡ true
     table_fits b = ap (λ (q : TableResult). fits q.table) read_fine ∙ read_fits p b
+
+    -- in areas of a table's sizes: these, and the parts that fit
+    pub parts_fit_lem : are_bytes p ≡ true → length ws ≡ max_rows → length ms ≡ documents →
+        TableSizes ws ms × (parts_fit r.count ws ms ≡ true)
+    parts_fit_lem b rows marks = (record { rows = rows; marks = marks }, table_fits b)
 
 -- SWEPT, UNDONE
 module _ (t : Table) (f : fits t ≡ true) where

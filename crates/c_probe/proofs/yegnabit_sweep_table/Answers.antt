@@ -12,4 +12,4 @@ returns-in-Err-clause-value c =
     (sweep_refused x.count x.rows.now x.marks.now c.table_of-t.result c.table_of-t.ensures _
     (is_given_lem x.rows.now x.marks.now (search (c.if-rows-ne-ROWS.false, rules)) (search (c.if-marks-ne-DOCUMENTS.false, rules)))
     c.in-Err.ensures c.code-in-Err.result
-    (c.code-in-Err.ensures ∙ ap (λ n. code_of (values n 1 0)) c.from.ensures) (some_number c.in-Err.refusal.reason)).0
+    (c.code-in-Err.ensures ∙ ap (λ n. code_of (values n 1 0)) c.from.ensures) (some_number c.in-Err.refused.refusal.reason)).0

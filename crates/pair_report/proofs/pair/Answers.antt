@@ -28,9 +28,9 @@ returns-in-Ok-clause-out_after c =
 pub returns-in-Err-clause-value : goal.returns-in-Err-clause-value
 returns-in-Err-clause-value c =
     (plan_refused c.args.plan.now c.args.first.now c.args.second.now (omega (arith, c.if-out-lt-ROOM.false)) c.put_file.auto.out
-    c.in-Err.ensures (some_number c.in-Err.refusal.reason) c.put_file.ensures.text (omega (arith, c.put_file.ensures.few))).0
+    c.in-Err.ensures (some_number c.in-Err.refused.refusal.reason) c.put_file.ensures.text (omega (arith, c.put_file.ensures.few))).0
 
 pub returns-in-Err-clause-out_after : goal.returns-in-Err-clause-out_after
 returns-in-Err-clause-out_after c =
     (plan_refused c.args.plan.now c.args.first.now c.args.second.now (omega (arith, c.if-out-lt-ROOM.false)) c.put_file.auto.out
-    c.in-Err.ensures (some_number c.in-Err.refusal.reason) c.put_file.ensures.text (omega (arith, c.put_file.ensures.few))).1
+    c.in-Err.ensures (some_number c.in-Err.refused.refusal.reason) c.put_file.ensures.text (omega (arith, c.put_file.ensures.few))).1

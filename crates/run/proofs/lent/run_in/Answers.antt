@@ -4,7 +4,7 @@ use Rattle.model.specs.Limits.{max_rows, documents}
 use Rattle.plan_table.specs.Refusals.{number_of}
 use Rattle.plan_table.specs.declared.Table.{Table}
 use Rattle.plan_table.proofs.ReasonLaws.{some_number}
-use Rattle.run.proofs.CallLaws.{refused_post, accepted_by, eval_asks, put_front, run_refused_lem, run_post}
+use Rattle.run.proofs.CallLaws.{refused_post, accepted_by, eval_asks, run_refused_lem, run_post}
 use Rattle.run.proofs.lent.run_in.Goals as goal
 
 pub evaluated-requires : goal.evaluated-requires
@@ -35,7 +35,4 @@ returns-clause-run_post c =
     let rows : length given.rows ≡ max_rows = omega arith in
     let marks : length given.marks ≡ documents = omega arith in
     run_post given c.args.script.now fits accepted rows marks c.start.ensures c.in-Ok.ensures refl
-    c.requires.run_pre
-    (put_front given c.args.script.now fits accepted rows marks c.start.ensures c.in-Ok.ensures refl
-    c.args.answer.now c.requires.run_pre.work c.copy_from_slice.ensures.after)
-    refl
+    c.requires.run_pre c.put.ensures refl

@@ -11,18 +11,18 @@ per_record = 4 * max_items
 
 -- the rest of a record weighs its other operands
 abbrev pub decreases-binary : goal.decreases-binary
-decreases-binary l = per_record * records_at l.left l.program.script.now l.x.place + 2
+decreases-binary l = per_record * records_at l.left l.program.now.script.now l.x.place + 2
 
 abbrev pub decreases-branch : goal.decreases-branch
 decreases-branch l =
-    let b = l.program.script.now in
+    let b = l.program.now.script.now in
     per_record * (records_at l.left b l.x.place + records_at l.left b (end_at b l.x.place)) + 2
 
 abbrev pub decreases-each : goal.decreases-each
-decreases-each l = per_record * records_at l.left l.program.script.now l.at + 2 + (l.to - l.from)
+decreases-each l = per_record * records_at l.left l.program.now.script.now l.at + 2 + (l.to - l.from)
 
 abbrev pub decreases-eval : goal.decreases-eval
-decreases-eval l = per_record * records_at l.left l.program.script.now l.at + 1
+decreases-eval l = per_record * records_at l.left l.program.now.script.now l.at + 1
 
 abbrev pub decreases-iterate : goal.decreases-iterate
-decreases-iterate l = per_record * records_at l.left l.program.script.now l.x.place + 2 * max_items
+decreases-iterate l = per_record * records_at l.left l.program.now.script.now l.x.place + 2 * max_items
