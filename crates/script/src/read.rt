@@ -63,7 +63,7 @@ pub struct Parsed {
 
 // Reads the expression at the place in `parsed`, which takes the place past it and the records so far, its own with them; refused, the
 // refusal's place. `left` is how deep it may be. The reason alone is answered, and the last operand's result is the expression's own: that
-// takes two thirds of the time that a `Result<Parsed, Refusal>` took (measured: 15 ifs with empty operands).
+// takes three quarters of the time that a `Result<Parsed, Refusal>` took (measured: 15 ifs with empty operands).
 pub fn expression(
     bytes: &[u8],
     left: usize,
