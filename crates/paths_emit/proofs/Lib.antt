@@ -3,3 +3,4 @@ pub mod RecordLaws
 pub mod OperandLaws
 pub mod WalkLaws
 pub mod SizeLaws
+pub mod KeptLaws

@@ -195,17 +195,29 @@ module _ {ws us c t : List ℕ} {k : ℕ} {seen : Bool} (pre : MeetsPre ws us c 
   on_read r l h g = marked_is t (length us) r k l (pre.filled.rows r k l h (omega arith) g)
 
   -- a test of the second's role, and both in it
-  meet_at_lem : (x : ℕ) (l : ℕ) → l < length us →
-      is_tested (entry_at (kept_entries_by ws) k) (entry_at (entries_by us) l) ≡ eqb (fields_of (get_or us l 0)).role x →
-      met_by t (length us) c k x l ≡ meet_at (kept_entries_by ws) (entries_by us) k l
-  meet_at_lem x l h e =
+  met_at : (x l : ℕ) {t₁ : Bool} → l < length us → t₁ ≡ eqb (fields_of (get_or us l 0)).role x →
+      met_by t (length us) c k x l ≡ (t₁ && is_met (cell_at (entries_by ws) (entries_by us) k l))
+  met_at x l h e =
       ap (λ (n : ℕ). eqb n x && (is_marked t (length us) on_element k l || is_marked t (length us) on_leaf k l))
       (pre.fill.columns.at role_field l (omega arith) h) ∙
       ap (λ (b : Bool). eqb (fields_of (get_or us l 0)).role x && (b || is_marked t (length us) on_leaf k l))
       (on_read on_element l (omega arith) h) ∙
       ap (λ (b : Bool). eqb (fields_of (get_or us l 0)).role x && (holds_at ws us on_element k l || b))
       (on_read on_leaf l (omega arith) h) ∙
-      ap (λ (b : Bool). b && is_met (cell_at (entries_by ws) (entries_by us) k l)) (sym e) ∙
+      ap (λ (b : Bool). b && is_met (cell_at (entries_by ws) (entries_by us) k l)) (sym e)
+
+  -- by all the fields of the first's
+  meet_at_lem : (x : ℕ) (l : ℕ) → l < length us →
+      is_tested (entry_at (entries_by ws) k) (entry_at (entries_by us) l) ≡ eqb (fields_of (get_or us l 0)).role x →
+      met_by t (length us) c k x l ≡ meet_at (entries_by ws) (entries_by us) k l
+  meet_at_lem x l h e = met_at x l h e
+
+  -- and by those that its kind has
+  kept_meet_at_lem : (x : ℕ) (l : ℕ) → l < length us →
+      is_tested (entry_at (kept_entries_by ws) k) (entry_at (entries_by us) l) ≡ eqb (fields_of (get_or us l 0)).role x →
+      met_by t (length us) c k x l ≡ meet_at (kept_entries_by ws) (entries_by us) k l
+  kept_meet_at_lem x l h e =
+      met_at x l h e ∙
       ap (λ (c : Cell). is_tested (entry_at (kept_entries_by ws) k) (entry_at (entries_by us) l) && is_met c)
       (sym (cell_at_first ws (entries_by us) k l))
 
@@ -223,14 +235,14 @@ module _ {ws us c t : List ℕ} {k : ℕ} {seen : Bool} (pre : MeetsPre ws us c 
   pub accessed_meets : {b : Bool} → role ≡ accessed_role → b ≡ any_up_to (met_by t (length us) c k modified_role) (length us) →
       b ≡ row_meets (entries_by ws) (entries_by us) k (length us)
   accessed_meets e is =
-      is ∙ any_up_to_below _ _ (length us) (λ l h. meet_at_lem modified_role l h (tested l ∙
+      is ∙ any_up_to_below _ _ (length us) (λ l h. kept_meet_at_lem modified_role l h (tested l ∙
       ap (λ (x : ℕ). (eqb x modified_role && eqb (fields_of (get_or us l 0)).role accessed_role) ||
       (eqb x accessed_role && eqb (fields_of (get_or us l 0)).role modified_role)) e)) ∙ all_fields
 
   pub modified_meets : {b : Bool} → role ≡ modified_role → b ≡ any_up_to (met_by t (length us) c k accessed_role) (length us) →
       b ≡ row_meets (entries_by ws) (entries_by us) k (length us)
   modified_meets e is =
-      is ∙ any_up_to_below _ _ (length us) (λ l h. meet_at_lem accessed_role l h (tested l ∙
+      is ∙ any_up_to_below _ _ (length us) (λ l h. kept_meet_at_lem accessed_role l h (tested l ∙
       ap (λ (x : ℕ). (eqb x modified_role && eqb (fields_of (get_or us l 0)).role accessed_role) ||
       (eqb x accessed_role && eqb (fields_of (get_or us l 0)).role modified_role)) e ∙ or-false _)) ∙ all_fields
 

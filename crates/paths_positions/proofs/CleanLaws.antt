@@ -26,12 +26,12 @@ by_kind k f g h i =
     (λ b. eq_cases k over_kind h (λ c. i (ne_eqb k 0 a) (ne_eqb k root_kind b) (ne_eqb k over_kind c))))
 
 -- ROLES
-known_accessed : (m : ℕ) → eqb (known_role m) accessed_role ≡ eqb m accessed_role
+pub known_accessed : (m : ℕ) → eqb (known_role m) accessed_role ≡ eqb m accessed_role
 known_accessed m =
     eq_cases m accessed_role (λ e. rw e)
     (λ n. eq_cases m modified_role (λ e. rw e) (λ o. rw (ne_eqb m accessed_role n, ne_eqb m modified_role o)))
 
-known_modified : (m : ℕ) → eqb (known_role m) modified_role ≡ eqb m modified_role
+pub known_modified : (m : ℕ) → eqb (known_role m) modified_role ≡ eqb m modified_role
 known_modified m =
     eq_cases m accessed_role (λ e. rw e)
     (λ n. eq_cases m modified_role (λ e. rw e) (λ o. rw (ne_eqb m accessed_role n, ne_eqb m modified_role o)))

@@ -25,7 +25,7 @@ use Rattle.paths_positions.proofs.PositionLaws.{paths_on_split}
 use Rattle.paths_positions.proofs.CleanLaws.{by_kind, accessed_cleaned, modified_cleaned}
 
 -- A STEP with a name only where its test is for one
-abbrev known : Step → Step
+abbrev pub known : Step → Step
 known s = step_by s.axis s.test (cond (is_named s) s.name 0)
 
 unfoldable known_path : Path → Path
@@ -100,7 +100,7 @@ between_second ps qs =
     (λ p. sum_known (cell p) (cell p) (cell_second p) qs) ps
 
 -- POSITIONS with such steps, and their paths
-abbrev known_position : positions.Position → positions.Position
+abbrev pub known_position : positions.Position → positions.Position
 known_position nowhere = nowhere
 known_position (root d) = root d
 known_position (over s i) = over (known s) i
@@ -126,7 +126,7 @@ paths_at_known ps (union i j) =
     sym (map-append known_path (get_or ps i []) (get_or ps j []))
 
 -- A POSITION by the fields that its kind has is that by all of them, with such a step
-name_known : (a t n : ℕ) → t < tests → known_name t n ≡ cond (is_named (step_by a t n)) n 0
+pub name_known : (a t n : ℕ) → t < tests → known_name t n ≡ cond (is_named (step_by a t n)) n 0
 name_known a t n h =
     eq_cases t 0 (λ e. rw e)
     (λ b. eq_cases t 1 (λ e. rw e)
@@ -266,10 +266,23 @@ lower_known k (root d) h = h
 lower_known k (over s i) h = h
 lower_known k (union i j) h = h
 
+known_lower : (k : ℕ) (p : positions.Position) → IsLower k (known_position p) → IsLower k p
+known_lower k nowhere h = h
+known_lower k (root d) h = h
+known_lower k (over s i) h = h
+known_lower k (union i j) h = h
+
+kept_at : (ws : List ℕ) (k : ℕ) → (entry_at (kept_entries_by ws) k).position ≡ known_position (entry_at (entries_by ws) k).position
+kept_at ws k =
+    ap (λ (x : Entry). x.position) (get_or-map kept_entry ws k 0) ∙ position_known (get_or ws k 0) ∙
+    ap (λ (x : Entry). known_position x.position) (sym (get_or-map entry_of ws k 0))
+
 pub lower_kept : (ws : List ℕ) → AreLower (entries_by ws) → AreLower (kept_entries_by ws)
 lower_kept ws lower k h =
-    let e : (entry_at (kept_entries_by ws) k).position ≡ known_position (entry_at (entries_by ws) k).position =
-    ap (λ (x : Entry). x.position) (get_or-map kept_entry ws k 0) ∙ position_known (get_or ws k 0) ∙
-    ap (λ (x : Entry). known_position x.position) (sym (get_or-map entry_of ws k 0)) in
-    subst (IsLower k) (sym e)
+    subst (IsLower k) (sym (kept_at ws k))
     (lower_known k (entry_at (entries_by ws) k).position (lower k (omega (arith, h, length-map ws kept_entry, length-map ws entry_of))))
+
+pub lower_all : (ws : List ℕ) → AreLower (kept_entries_by ws) → AreLower (entries_by ws)
+lower_all ws lower k h =
+    known_lower k (entry_at (entries_by ws) k).position
+    (subst (IsLower k) (kept_at ws k) (lower k (omega (arith, h, length-map ws kept_entry, length-map ws entry_of))))

@@ -9,3 +9,4 @@ pub mod PackedLaws
 pub mod UpLaws
 pub mod CleanLaws
 pub mod CleanMeetLaws
+pub mod KnownLaws

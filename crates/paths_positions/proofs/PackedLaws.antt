@@ -87,7 +87,7 @@ over_clean Modified a Element i = refl
 over_clean Modified a Leaf i = refl
 over_clean Modified a (Named n) i = refl
 
-cleaned_in : (p : declared.Position) → cleaned (fields_in p) ≡ fields_in p
+pub cleaned_in : (p : declared.Position) → cleaned (fields_in p) ≡ fields_in p
 cleaned_in Nothing = refl
 cleaned_in (Root Plain d) = refl
 cleaned_in (Root Accessed d) = refl
