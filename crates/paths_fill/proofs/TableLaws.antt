@@ -206,7 +206,7 @@ module _ {ws us c t : List ℕ} {k : ℕ} {seen : Bool} (pre : MeetsPre ws us c 
       (on_read on_leaf l (omega arith) h) ∙
       ap (λ (b : Bool). b && is_met (cell_at (entries_by ws) (entries_by us) k l)) (sym e)
 
-  -- by all the fields of the first's
+  -- by all the fields of the first's: no proof needs it, but docs/PORT.md names it
   meet_at_lem : (x : ℕ) (l : ℕ) → l < length us →
       is_tested (entry_at (entries_by ws) k) (entry_at (entries_by us) l) ≡ eqb (fields_of (get_or us l 0)).role x →
       met_by t (length us) c k x l ≡ meet_at (entries_by ws) (entries_by us) k l

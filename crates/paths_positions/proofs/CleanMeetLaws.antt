@@ -259,18 +259,13 @@ pub positions_meet_kept : (ws us : List ℕ) →
     positions_meet (kept_entries_by ws) (kept_entries_by us) ≡ positions_meet (entries_by ws) (entries_by us)
 positions_meet_kept ws us = meet_first ws (kept_entries_by us) ∙ meet_second (entries_by ws) us
 
--- LOWER ones only
-lower_known : (k : ℕ) (p : positions.Position) → IsLower k p → IsLower k (known_position p)
-lower_known k nowhere h = h
-lower_known k (root d) h = h
-lower_known k (over s i) h = h
-lower_known k (union i j) h = h
-
-known_lower : (k : ℕ) (p : positions.Position) → IsLower k (known_position p) → IsLower k p
-known_lower k nowhere h = h
-known_lower k (root d) h = h
-known_lower k (over s i) h = h
-known_lower k (union i j) h = h
+-- LOWER ones only: each way
+lower_known : (k : ℕ) (p : positions.Position) →
+    (IsLower k p → IsLower k (known_position p)) × (IsLower k (known_position p) → IsLower k p)
+lower_known k nowhere = (λ h. h, λ h. h)
+lower_known k (root d) = (λ h. h, λ h. h)
+lower_known k (over s i) = (λ h. h, λ h. h)
+lower_known k (union i j) = (λ h. h, λ h. h)
 
 kept_at : (ws : List ℕ) (k : ℕ) → (entry_at (kept_entries_by ws) k).position ≡ known_position (entry_at (entries_by ws) k).position
 kept_at ws k =
@@ -280,9 +275,10 @@ kept_at ws k =
 pub lower_kept : (ws : List ℕ) → AreLower (entries_by ws) → AreLower (kept_entries_by ws)
 lower_kept ws lower k h =
     subst (IsLower k) (sym (kept_at ws k))
-    (lower_known k (entry_at (entries_by ws) k).position (lower k (omega (arith, h, length-map ws kept_entry, length-map ws entry_of))))
+    ((lower_known k (entry_at (entries_by ws) k).position).0
+    (lower k (omega (arith, h, length-map ws kept_entry, length-map ws entry_of))))
 
 pub lower_all : (ws : List ℕ) → AreLower (kept_entries_by ws) → AreLower (entries_by ws)
 lower_all ws lower k h =
-    known_lower k (entry_at (entries_by ws) k).position
+    (lower_known k (entry_at (entries_by ws) k).position).1
     (subst (IsLower k) (kept_at ws k) (lower k (omega (arith, h, length-map ws kept_entry, length-map ws entry_of))))

@@ -17,15 +17,13 @@ use Rattle.paths_positions.specs.declared.packed.Position as declared
 use Rattle.paths_positions.specs.declared.packed.Position.TheVariants.{Nothing, Root, Over, Union}
 use Rattle.paths_positions.specs.Packed.{tests, entry_by, fields_in, fields_of, cleaned, entry_of, kept_entry, entries_in, PushPost}
 use Rattle.paths_positions.proofs.CleanLaws.{by_kind, known_accessed, known_modified}
-use Rattle.paths_positions.proofs.CleanMeetLaws.{known, name_known}
+use Rattle.paths_positions.proofs.CleanMeetLaws.{known_position, name_known}
 use Rattle.paths_positions.proofs.PackedLaws.{cleaned_in}
 
--- AN ENTRY so
+-- AN ENTRY with such a position; nothing has no role
 abbrev pub known_as : positions.Position → (accessed modified : Bool) → Entry
 known_as nowhere a m = plain nowhere
-known_as (root d) a m = record { position = root d; accessed = a; modified = m }
-known_as (over s i) a m = record { position = over (known s) i; accessed = a; modified = m }
-known_as (union i j) a m = record { position = union i j; accessed = a; modified = m }
+known_as p a m = record { position = known_position p; accessed = a; modified = m }
 
 abbrev pub known_entry : Entry → Entry
 known_entry x = known_as x.position x.accessed x.modified
